@@ -1,0 +1,4 @@
+pub mod Field
+pub mod Turns
+pub mod Refusals
+pub mod Order

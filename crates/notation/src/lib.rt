@@ -1,0 +1,1 @@
+// The notation of grammar files: what its lines are, and (in specs/) how each is written.

@@ -1,0 +1,4 @@
+pub mod Digits
+pub mod Signs
+pub mod Counting
+pub mod Stretches

@@ -1,0 +1,5 @@
+// Reading a grammar file: numbers, fields, lines, the contents, and what each line asks for.
+pub mod line;
+pub mod lines;
+pub mod numbers;
+pub mod reader;
