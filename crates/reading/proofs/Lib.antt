@@ -2,3 +2,5 @@ pub mod Digits
 pub mod Signs
 pub mod Counting
 pub mod Stretches
+pub mod Opening
+pub mod Splitting

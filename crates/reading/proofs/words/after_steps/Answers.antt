@@ -1,0 +1,7 @@
+use borrow.Author.Needs.{needs}
+use lib.Chars.{codes}
+use Rattle.reading.proofs.Opening.{opens}
+use Rattle.reading.proofs.words.after_steps.Needs as need
+
+pub returns-in-115 : need.returns-in-115
+returns-in-115 c = opens _ (codes "steps ") (search needs) (search needs)
