@@ -95,9 +95,10 @@ taken-field xs n e h l =
     let z : n - 0 ≡ solid-length xs = omega arith in
     let k : solid-length xs < length xs = omega arith in
     let t : take (n - 0) xs ≡ take (solid-length xs) xs = ap (λ (i : ℕ). take i xs) z in
-    let r : take (length xs - (n + 1)) (drop (n + 1) xs) ≡ drop (solid-length xs + 1) xs = take-rest xs (n + 1) ∙ ap (λ (i : ℕ). drop (i + 1) xs) e in
-    (record { some = omega (arith, ap length t, length-take-le (solid-length xs) xs (omega arith)); solid = subst Solid (sym t) (front-solid xs) },
-     cut-at-space xs k ∙ ap (λ (ys : List ℕ). ys ++ (32 ∷ drop (solid-length xs + 1) xs)) (sym t) ∙ ap (λ (ys : List ℕ). take (n - 0) xs ++ (32 ∷ ys)) (sym r))
+    let r : take (length xs - (n + 1)) (drop (n + 1) xs) ≡ drop (solid-length xs + 1) xs = take-rest xs (n + 1) ∙ ap (λ (i : ℕ). drop (i + 1) xs) e in (
+      record { some = omega (arith, ap length t, length-take-le (solid-length xs) xs (omega arith)); solid = subst Solid (sym t) (front-solid xs) },
+      cut-at-space xs k ∙ ap (λ (ys : List ℕ). ys ++ (32 ∷ drop (solid-length xs + 1) xs)) (sym t) ∙ ap (λ (ys : List ℕ). take (n - 0) xs ++ (32 ∷ ys)) (sym r),
+    )
 
 -- bytes are a field if no space ends the count of them before their end
 pub whole-field : (xs : List ℕ) (n : ℕ) → n ≡ solid-length xs → 0 < length xs → eqb n (length xs) ≡ true → Field xs

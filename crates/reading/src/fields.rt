@@ -42,7 +42,11 @@ pub fn two_fields<'a>(bytes: &'a [u8]) -> Option<(&'a [u8], &'a [u8])>
     ensures { λ r. ⌜ Two (now (bytes .entry)) r ⌝ }
 {
     let (a, rest) = take_field(bytes)?;
-    if is_field(rest) { Some((a, rest)) } else { None }
+    if is_field(rest) {
+        Some((a, rest))
+    } else {
+        None
+    }
 }
 
 // The bytes as three fields.

@@ -100,10 +100,18 @@ impl<'a> Reader<'a> {
         let number = self.line;
         if n == rest.len() {
             self.at += n;
-            return Some(Line { text: rest, number, ended: false });
+            return Some(Line {
+                text: rest,
+                number,
+                ended: false,
+            });
         }
         self.at += n + 1;
         self.line += 1;
-        Some(Line { text: &rest[0..n], number, ended: true })
+        Some(Line {
+            text: &rest[0..n],
+            number,
+            ended: true,
+        })
     }
 }

@@ -12,8 +12,8 @@ use Rattle.reading.proofs.lines.ends.Needs.{then-b-eq10, else-b-eq10}
 pub loop-b-again : need.loop-b-again
 loop-b-again c =
     elim (c .if-b-eq10 .came) [
-      then-b-eq10 w ↦ (let m = countBy-more-yes ends-line (c .args .bytes .now) (c .loop-b .b-index) 0 (c .loop-b-test .taken) (grind (arith, tells, w .if-b-eq10 .taken)) in omega (arith, m, w .n-is, c .loop-b .inv .0), omega (arith, w .n-is, c .loop-b .inv .1))
-    | else-b-eq10 w ↦ (let m = countBy-more-no ends-line (c .args .bytes .now) (c .loop-b .b-index) 0 (c .loop-b-test .taken) (grind (arith, tells, w .if-b-eq10 .left)) in omega (arith, m, w .n-is, c .loop-b .inv .0), omega (arith, w .n-is, c .loop-b .inv .1))
+      | then-b-eq10 w ↦ (let m = countBy-more-yes ends-line (c .args .bytes .now) (c .loop-b .b-index) 0 (c .loop-b-test .taken) (grind (arith, tells, w .if-b-eq10 .taken)) in omega (arith, m, w .n-is, c .loop-b .inv .0), omega (arith, w .n-is, c .loop-b .inv .1))
+      | else-b-eq10 w ↦ (let m = countBy-more-no ends-line (c .args .bytes .now) (c .loop-b .b-index) 0 (c .loop-b-test .taken) (grind (arith, tells, w .if-b-eq10 .left)) in omega (arith, m, w .n-is, c .loop-b .inv .0), omega (arith, w .n-is, c .loop-b .inv .1))
     ]
 
 pub returns : need.returns

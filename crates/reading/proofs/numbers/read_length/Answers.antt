@@ -40,9 +40,10 @@ add-value c = omega (arith, low (c .args .field .now) (c .loop-b .b-index) (c .l
 pub loop-b-again : need.loop-b-again
 loop-b-again c =
     let d = range-digit (getD (c .args .field .now) (c .loop-b .b-index) 0) (c .if-b-lt48 .left) (c .if-b-gt57 .left) in
-    let m = value-more 10 (c .args .field .now) (c .loop-b .b-index) (c .loop-b-test .taken) in
-    ( omega (arith, m, d, c .loop-b .inv .0)
-    , digits-more 10 (c .args .field .now) (c .loop-b .b-index) (c .loop-b-test .taken) (c .loop-b .inv .1) (omega (arith, d, c .if-b-gt57 .left)))
+    let m = value-more 10 (c .args .field .now) (c .loop-b .b-index) (c .loop-b-test .taken) in (
+      omega (arith, m, d, c .loop-b .inv .0),
+      digits-more 10 (c .args .field .now) (c .loop-b .b-index) (c .loop-b-test .taken) (c .loop-b .inv .1) (omega (arith, d, c .if-b-gt57 .left)),
+    )
 
 pub returns : need.returns
 returns c =
