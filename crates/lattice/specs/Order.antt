@@ -11,8 +11,11 @@ pub record Triple : Type 0 where
   pub across : ℤ
   pub up : ℤ
 
+abbrev pub read : ℤ → ℤ → ℤ → Triple
+read turn across up = record { turn = turn; across = across; up = up }
+
 abbrev pub triple : Placement → Triple
-triple p = record { turn = pos (p .turn .index); across = p .across; up = p .up }
+triple p = read (pos (p .turn .index)) (p .across) (p .up)
 
 -- a comes before b
 abbrev pub Before : Triple → Triple → Type 0

@@ -1,4 +1,4 @@
-// Reading a grammar file: numbers, fields, lines, the contents, and what each line asks for.
+// Reading text: numbers, words, fields and lines, all of them parts of the bytes that are read.
 pub mod fields;
 pub mod line;
 pub mod lines;

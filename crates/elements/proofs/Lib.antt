@@ -1,0 +1,4 @@
+pub mod Orders
+pub mod Covering
+pub mod PointRules
+pub mod InkRules

@@ -1,0 +1,3 @@
+// Points, and ink over any kind.
+pub mod ink;
+pub mod point;

@@ -1,0 +1,4 @@
+pub mod Numbers
+pub mod Having
+pub mod Standing
+pub mod Stretching

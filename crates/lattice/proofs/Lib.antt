@@ -1,0 +1,4 @@
+pub mod Bounds
+pub mod Turning
+pub mod Same
+pub mod Valid

@@ -1,0 +1,3 @@
+// What the lines of a grammar file say: its contents, and the commands in its bodies.
+pub mod entries;
+pub mod listing;

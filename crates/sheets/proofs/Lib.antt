@@ -1,0 +1,12 @@
+pub mod Ahead
+pub mod Sides
+pub mod Order
+pub mod Joined
+pub mod Unique
+pub mod Spliced
+pub mod Puts
+pub mod Added
+pub mod Removed
+pub mod Contained
+pub mod Inclusion
+pub mod Counted
