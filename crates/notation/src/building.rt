@@ -1,6 +1,7 @@
 // Contents put together entry by entry.
 ghost use mathlib.Core.Path.{_≡_};
 ghost use mathlib.Core.List.{[]};
+ghost use Rattle.std.specs.Orderings.{Decides};
 ghost use Rattle.notation.specs.Contents.{entries, Proper, Admits};
 use crate::contents::Contents;
 use crate::contents::Entry;
@@ -18,6 +19,16 @@ impl Contents {
             rules: [0; 32],
             count: 0,
             steps: 0,
+        }
+    }
+
+    // Whether all entries were taken.
+    pub fn is_whole(&self) -> bool
+        ensures { λ r. ⌜ Decides r (now (self .entry) .stage ≡ Stage.Whole) ⌝ }
+    {
+        match self.stage {
+            Stage::Whole => true,
+            _ => false,
         }
     }
 

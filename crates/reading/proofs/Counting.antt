@@ -5,6 +5,7 @@ use mathlib.Core.List.{List, [], _∷_, _++_}
 use Prim.Native.Nat.{ℕ, zero, suc, _+_, _-_, _≤_, _<_, min}
 use native.Mathlib.Omega.{arith}
 use native.Mathlib.Numerals.{one-add, add-one}
+use borrow.Author.Tests.{ltb-true}
 use lib.Dec.{eqb, ltb}
 use lib.ListN.{take, drop, length, getD, length-drop}
 use lib.Seq.{take-add}
@@ -12,7 +13,8 @@ use Rattle.std.proofs.shelf.Lists.{drop-drop, drop-all}
 use Rattle.std.proofs.shelf.Sums.{sumBy-append, sumBy-cons, sumBy-take-le, countBy-le-length, leading-le-length}
 use Rattle.std.proofs.shelf.Tests.{lt-ltb, le-ltb}
 use Rattle.std.proofs.shelf.Ways.{tells}
-use Rattle.notation.specs.Lines.{ends-line, newlines, in-line, line-length, is-ended, after-line}
+use Rattle.notation.specs.Lines.{ends-line, newlines, in-line, line-length, is-ended, first-line, after-line}
+use Rattle.reading.proofs.Cutting.{cut-at}
 
 not-end : (x : ℕ) → in-line x ≡ true → ends-line x ≡ false
 not-end x h = grind (arith, tells)
@@ -75,6 +77,10 @@ after-ended xs i n e = sym (drop-drop (n + 1) i xs) ∙ ap (λ (k : ℕ). drop (
 pub after-last : (xs : List ℕ) (i n : ℕ) → n ≡ line-length (drop i xs) → n ≡ length (drop i xs) → drop (i + n) xs ≡ after-line (drop i xs)
 after-last xs i n e l =
     sym (drop-drop n i xs) ∙ drop-all n (drop i xs) (omega (arith, l)) ∙ sym (drop-all (line-length (drop i xs) + 1) (drop i xs) (omega (arith, e, l)))
+
+-- a line with its end, and the bytes after it
+pub cut-line : (xs : List ℕ) → is-ended xs ≡ true → xs ≡ first-line xs ++ (10 ∷ after-line xs)
+cut-line xs h = cut-at 10 xs (ltb-true (line-length xs) (length xs) h)
 
 pub next-number : (n : ℕ) (b : Bool) → true ≡ b → n + 1 ≡ n + cond b 1 0
 next-number n b e = ap (λ (x : Bool). n + cond x 1 0) e

@@ -12,43 +12,16 @@ use Rattle.std.specs.shelf.Lists.{All}
 use Rattle.std.proofs.shelf.Lists.{take-rest, take-all, length-take-le}
 use Rattle.std.proofs.shelf.Ways.{tells}
 use Rattle.notation.specs.Words.{spaced, Field, Splits}
+use Rattle.reading.proofs.Cutting.{Free, front-free, free-front, free-whole, cut-at}
 use Rattle.reading.specs.Fields.{solid-length, Takes, NoFields}
 
 abbrev Solid : List ℕ → Type 0
-Solid bs = All (λ b. eqb b 32 ≡ false) bs
-
-front-step : (x : ℕ) (xs : List ℕ) (b : Bool) → eqb x 32 ≡ b → Solid (take (solid-length xs) xs) → Solid (take (cond (cond b false true) (1 + solid-length xs) 0) (x ∷ xs))
-front-step x xs true e h = tt
-front-step x xs false e h = rw one-add (e, h)
-
--- the bytes before the first space have no space
-pub front-solid : (xs : List ℕ) → Solid (take (solid-length xs) xs)
-front-solid [] = tt
-front-solid (x ∷ xs) = front-step x xs (eqb x 32) refl (front-solid xs)
-
-space-step : (x : ℕ) (xs : List ℕ) (b : Bool) → eqb x 32 ≡ b → cond (cond b false true) (1 + solid-length xs) 0 < suc (length xs) → (solid-length xs < length xs → xs ≡ take (solid-length xs) xs ++ (32 ∷ drop (solid-length xs + 1) xs)) → x ∷ xs ≡ take (cond (cond b false true) (1 + solid-length xs) 0) (x ∷ xs) ++ (32 ∷ drop (cond (cond b false true) (1 + solid-length xs) 0 + 1) (x ∷ xs))
-space-step x xs true e l h = let k : x ≡ 32 = grind (arith, tells) in ap (λ (y : ℕ). y ∷ xs) k
-space-step x xs false e l h =
-    let s : 1 + solid-length xs + 1 ≡ suc (solid-length xs + 1) = omega arith in
-    rw (s, one-add) (ap (λ (ys : List ℕ). x ∷ ys) (h (omega arith)))
-
--- and where it stands, the bytes are cut
-pub cut-at-space : (xs : List ℕ) → solid-length xs < length xs → xs ≡ take (solid-length xs) xs ++ (32 ∷ drop (solid-length xs + 1) xs)
-cut-at-space [] h = let no : ⊥ = omega arith in absurd no
-cut-at-space (x ∷ xs) h = space-step x xs (eqb x 32) refl h (cut-at-space xs)
-
-solid-front : (f rest : List ℕ) → Solid f → solid-length (f ++ (32 ∷ rest)) ≡ length f
-solid-front [] rest h = refl
-solid-front (x ∷ f) rest h = let e = h .0 in simp e (ap (λ (k : ℕ). 1 + k) (solid-front f rest (h .1)) ∙ one-add (length f))
-
-pub solid-whole : (f : List ℕ) → Solid f → solid-length f ≡ length f
-solid-whole [] h = refl
-solid-whole (x ∷ f) h = let e = h .0 in simp e (ap (λ (k : ℕ). 1 + k) (solid-whole f (h .1)) ∙ one-add (length f))
+Solid bs = Free 32 bs
 
 -- where the field in front ends, if there is one
 pub front-length : (xs f rest : List ℕ) → Field f → xs ≡ f ++ (32 ∷ rest) → (0 < solid-length xs) × (solid-length xs < length xs)
 front-length xs f rest h e =
-    let s = ap solid-length e ∙ solid-front f rest (h .solid) in
+    let s = ap solid-length e ∙ free-front 32 f rest (h .solid) in
     let l = ap length e ∙ length-append f (32 ∷ rest) in
     let some = h .some in
     (omega arith, omega arith)
@@ -96,15 +69,15 @@ taken-field xs n e h l =
     let k : solid-length xs < length xs = omega arith in
     let t : take (n - 0) xs ≡ take (solid-length xs) xs = ap (λ (i : ℕ). take i xs) z in
     let r : take (length xs - (n + 1)) (drop (n + 1) xs) ≡ drop (solid-length xs + 1) xs = take-rest xs (n + 1) ∙ ap (λ (i : ℕ). drop (i + 1) xs) e in (
-      record { some = omega (arith, ap length t, length-take-le (solid-length xs) xs (omega arith)); solid = subst Solid (sym t) (front-solid xs) },
-      cut-at-space xs k ∙ ap (λ (ys : List ℕ). ys ++ (32 ∷ drop (solid-length xs + 1) xs)) (sym t) ∙ ap (λ (ys : List ℕ). take (n - 0) xs ++ (32 ∷ ys)) (sym r),
+      record { some = omega (arith, ap length t, length-take-le (solid-length xs) xs (omega arith)); solid = subst Solid (sym t) (front-free 32 xs) },
+      cut-at 32 xs k ∙ ap (λ (ys : List ℕ). ys ++ (32 ∷ drop (solid-length xs + 1) xs)) (sym t) ∙ ap (λ (ys : List ℕ). take (n - 0) xs ++ (32 ∷ ys)) (sym r),
     )
 
 -- bytes are a field if no space ends the count of them before their end
 pub whole-field : (xs : List ℕ) (n : ℕ) → n ≡ solid-length xs → 0 < length xs → eqb n (length xs) ≡ true → Field xs
 whole-field xs n e p t =
     let k : n ≡ length xs = eqb-true n (length xs) t in
-    record { some = p; solid = subst Solid (take-all (solid-length xs) xs (omega arith)) (front-solid xs) }
+    record { some = p; solid = subst Solid (take-all (solid-length xs) xs (omega arith)) (front-free 32 xs) }
 
 pub field-whole : (xs : List ℕ) (n : ℕ) → n ≡ solid-length xs → Field xs → eqb n (length xs) ≡ true
-field-whole xs n e f = eq-eqb n (length xs) (e ∙ solid-whole xs (f .solid))
+field-whole xs n e f = eq-eqb n (length xs) (e ∙ free-whole 32 xs (f .solid))
