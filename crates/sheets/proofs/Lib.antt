@@ -10,3 +10,4 @@ pub mod Removed
 pub mod Contained
 pub mod Inclusion
 pub mod Counted
+pub mod Slotted

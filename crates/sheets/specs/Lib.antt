@@ -4,3 +4,4 @@ pub mod Maximal
 pub mod Finding
 pub mod Contents
 pub mod Put
+pub mod Slots

@@ -3,3 +3,4 @@
 mod finding;
 mod pieces;
 pub mod sheet;
+pub mod slots;

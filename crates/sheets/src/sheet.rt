@@ -31,8 +31,8 @@ pub const MOST_SLOTS: usize = 4096;
 
 #[derive(Drop)]
 pub struct Sheet<'a, K> {
-    slots: &'a mut [K],
-    count: usize,
+    pub(crate) slots: &'a mut [K],
+    pub(crate) count: usize,
 }
 
 impl<'a, K: Kind> Sheet<'a, K> {
