@@ -13,7 +13,7 @@ use Rattle.std.proofs.shelf.Parts.{take-putMid-below, between-putMid}
 use Rattle.lattice.specs.declared.refusal.Refusal.{Refusal}
 use Rattle.kinds.specs.Model.{KindModel, covers}
 use Rattle.sheets.specs.Cover.{union, cover, canonical}
-use Rattle.sheets.specs.Maximal.{Lists}
+use Rattle.sheets.specs.Maximal.{Lists, Counts}
 use Rattle.sheets.specs.Slots.{SlotsBecame, SlotsStayed}
 use Rattle.rulebook.specs.Tables.{latest, Tidy, Grew, Stayed}
 use Rattle.rulebook.specs.declared.table.Table.{Table}
@@ -88,11 +88,11 @@ module _ {E A C : Type 0} (m : KindModel E A C) where
   sum-stayed e why t u f count sub h k b now = record {
     number = b .number;
     same = now ∙ ap (λ (z : List E). record { slots = setVals z (t .slots); from = t .from; used = t .used }) (ap (with-tail f (t .slots .now)) (b .same) ∙ put-same f (length (t .slots .now) - f) (t .slots .now));
-    full = λ d ys l.
+    full = λ d.
         let w = was-latest t f count h k d in
         let lo = d .low in
         let hi = d .high in
         let p = d .few in
-        let full = b .full (ap (canonical m) w ∙ d .ordered) (omega (arith, tail-length f (t .slots .now))) ys (subst (λ (z : List E). Lists m (union (cover m z) (covers m e)) ys) (sym w) l) in
-        omega (arith, full, tail-length f (t .slots .now));
+        let full = b .full (ap (canonical m) w ∙ d .ordered) (omega (arith, tail-length f (t .slots .now))) in
+        (full .0, subst (λ (z : List E). Counts m (union (cover m z) (covers m e)) (full .0)) w (full .1), omega (arith, full .2, tail-length f (t .slots .now)));
   }

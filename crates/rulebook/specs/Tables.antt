@@ -8,7 +8,7 @@ use Rattle.lattice.specs.Refusals.{number}
 use Rattle.lattice.specs.declared.refusal.Refusal.{Refusal}
 use Rattle.kinds.specs.Model.{KindModel, covers}
 use Rattle.sheets.specs.Cover.{union, cover, canonical}
-use Rattle.sheets.specs.Maximal.{Lists}
+use Rattle.sheets.specs.Maximal.{Lists, Counts}
 use Rattle.rulebook.specs.declared.table.Stretch.{Stretch}
 use Rattle.rulebook.specs.declared.table.Table.{Table}
 
@@ -40,4 +40,4 @@ module _ {E A C : Type 0} (m : KindModel E A C) where
   pub record Stayed (e : E) (why : Refusal) (t u : Table E) : Type 0 where
     pub number : number why ≡ 19
     pub same : u ≡ t
-    pub full : Tidy t → (ys : List E) → Lists m (union (cover m (latest t)) (covers m e)) ys → length (t .slots .now) < t .from + length ys
+    pub full : Tidy t → (n : ℕ) × Counts m (union (cover m (latest t)) (covers m e)) n × (length (t .slots .now) < t .from + n)

@@ -19,7 +19,7 @@ use Rattle.kinds.specs.Model.{KindModel, covers}
 use Rattle.kinds.specs.Rules.{Rules, Touch}
 use Rattle.sheets.specs.declared.sheet.Sheet.{Sheet}
 use Rattle.sheets.specs.Cover.{cover, union, ahead, canonical}
-use Rattle.sheets.specs.Maximal.{Lists, Same}
+use Rattle.sheets.specs.Maximal.{Lists, Counts, Same}
 use Rattle.sheets.specs.Finding.{Parted, Whole}
 use Rattle.sheets.specs.Contents.{items, room, covered, Sound, Became, Refused}
 use Rattle.sheets.specs.Put.{Put, NoPut, with-put}
@@ -52,8 +52,7 @@ module _ {E A C : Type 0} (m : KindModel E A C) (r : Rules m) where
   settled set ps from to s t (Err v) h put = record {
     number = put .number;
     same = put .same;
-    full = λ k ys l. subst (λ zs. room s < length zs) (one-list m r set _ ys (h .lists k) l) (put .full);
-    list = λ k. (_, h .lists k);
+    full = λ k. (_, record { list = _; lists = h .lists k; long = refl }, put .full);
   }
 
   pub settled-longer : {V : Type 0} (set : A → Bool) (ps : List E) (from to : ℕ) (s t : Sheet E) (res : Result V Refusal)
@@ -97,3 +96,15 @@ module _ {E A C : Type 0} (m : KindModel E A C) (r : Rules m) where
     lists = λ k. record { ordered = added-canonical (items s) e w from to f (k .ordered); covering = added-cover (items s) e w from to f };
     longer = (let l = f .low in let h = f .high in omega (arith, length-with (items s) (w ∷ []) from to l h));
   }
+
+  -- how long the changed list is
+  pub counted-change : (set : A → Bool) (ps : List E) (from to n : ℕ) (s : Sheet E) → from ≤ to → to ≤ length (items s) → Change set ps from to s → Sound m s → n ≡ length (items s) - (to - from) + length ps → Counts m set n
+  counted-change set ps from to n s low high h k e = record { list = _; lists = h .lists k; long = length-with (items s) ps from to low high ∙ sym e }
+
+  -- of a refusal: every list of the set is longer than there are slots
+  pub refused-any : (set : A → Bool) (s t : Sheet E) (why : Refusal) → Refused m set s t why → Sound m s → (ys : List E) → Lists m set ys → room s < length ys
+  refused-any set s t why h k ys l =
+      let f = h .full k in
+      let n = f .1 .long in
+      let e = ap length (one-list m r set (f .1 .list) ys (f .1 .lists) l) in
+      omega (arith, f .2)

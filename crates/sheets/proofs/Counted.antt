@@ -141,6 +141,6 @@ module _ {E A C : Type 0} (m : KindModel E A C) (r : Rules m) where
       let b = sumBy-le (size m) 4001 (items s) (every-few (items s)) in
       omega (arith, b, mul-le-mul-right 4001 n)
     where
-    every-few : (xs : List E) → All (λ e. size m e ≤ 4001) xs
-    every-few [] = tt
-    every-few (x ∷ xs) = (few-each x, every-few xs)
+      every-few : (xs : List E) → All (λ e. size m e ≤ 4001) xs
+      every-few [] = tt
+      every-few (x ∷ xs) = (few-each x, every-few xs)

@@ -28,7 +28,7 @@ use Rattle.sheets.specs.declared.sheet.Sheet.{Sheet}
 use Rattle.sheets.specs.Census.{Belongs}
 use Rattle.sheets.specs.Finding.{Parted, Left, LeftPart, Right, RightPart}
 use Rattle.sheets.specs.Contents.{items, covered}
-use Rattle.sheets.specs.Put.{one-listed, listed}
+use Rattle.sheets.specs.Finding.{one-listed, listed}
 use Rattle.sheets.proofs.Ahead.{ahead-to, ahead-later, ahead-sooner, gap, past}
 use Rattle.sheets.proofs.Order.{Before, Pairs, pairs-from, pairs-to, pairs-left, pairs-right, pairs-across, pairs-append, all-left, all-right, all-belongs, cover-past}
 use Rattle.sheets.proofs.Unique.{belongs-cover}
@@ -49,7 +49,7 @@ without : (f b t e : Bool) → (e ≡ true → f ≡ false) → (e ≡ true → 
 without f b t true p q = (λ i. p refl i || (and-false b i || q refl i)) ∙ sym (and-false (f || (b || t)))
 without f b t false p q = ap (λ c. f || (c || t)) (and-true b) ∙ sym (and-true (f || (b || t)))
 
-swap : {X Y : Type 0} (R : X → Y → Type 0) (xs : List X) (ys : List Y) → All (λ x. All (R x) ys) xs → All (λ y. All (λ x. R x y) xs) ys
+pub swap : {X Y : Type 0} (R : X → Y → Type 0) (xs : List X) (ys : List Y) → All (λ x. All (R x) ys) xs → All (λ y. All (λ x. R x y) xs) ys
 swap R xs [] h = tt
 swap R xs (y ∷ ys) h = (all-weaker _ _ (λ x k. k .0) xs h, swap R xs ys (all-weaker _ _ (λ x k. k .1) xs h))
 

@@ -8,7 +8,7 @@ use Rattle.lattice.specs.Refusals.{number}
 use Rattle.lattice.specs.declared.refusal.Refusal.{Refusal}
 use Rattle.kinds.specs.Model.{KindModel}
 use Rattle.sheets.specs.Cover.{cover, canonical}
-use Rattle.sheets.specs.Maximal.{Lists, Same}
+use Rattle.sheets.specs.Maximal.{Counts, Same}
 use Rattle.sheets.specs.declared.sheet.Sheet.{Sheet}
 
 -- the counted elements
@@ -39,8 +39,7 @@ module _ {E A C : Type 0} (m : KindModel E A C) where
   pub record Refused (set : A → Bool) (s t : Sheet E) (why : Refusal) : Type 0 where
     pub number : number why ≡ 19
     pub same : t ≡ s
-    pub full : Sound s → (ys : List E) → Lists m set ys → room s < length ys
-    pub list : Sound s → (ys : List E) × Lists m set ys
+    pub full : Sound s → (n : ℕ) × Counts m set n × (room s < n)
 
   -- s became t, which has the other sheet's elements
   pub record Copied (other s t : Sheet E) : Type 0 where

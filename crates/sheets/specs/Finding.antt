@@ -1,7 +1,7 @@
 -- What is found in a list for one element: where it belongs, what it touches, what it makes with that, what it leaves of it.
 use mathlib.Core.Path.{_≡_}
 use mathlib.Core.Bool.{Bool, true, false, _||_}
-use mathlib.Core.List.{List}
+use mathlib.Core.List.{List, [], _∷_, _++_}
 use Prim.Native.Nat.{ℕ}
 use lib.ListN.{take, drop}
 use lib.Signed.{_≤ℤ_}
@@ -16,6 +16,14 @@ use Rattle.sheets.specs.Cover.{cover, ahead}
 pub record Parted {E : Type 0} (test : E → Bool) (xs : List E) (n : ℕ) : Type 0 where
   pub front : All (λ x. test x ≡ true) (take n xs)
   pub back : All (λ x. test x ≡ false) (drop n xs)
+
+-- the elements that there are
+abbrev pub one-listed : {E : Type 0} → Option E → List E
+one-listed None = []
+one-listed (Some x) = x ∷ []
+
+abbrev pub listed : {E : Type 0} → Option E → Option E → List E
+listed left right = one-listed left ++ one-listed right
 
 module _ {E A C : Type 0} (m : KindModel E A C) where
   -- p is what of x lies before the start of e

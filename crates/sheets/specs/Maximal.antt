@@ -3,6 +3,8 @@ use mathlib.Core.Path.{_≡_}
 use mathlib.Core.Bool.{Bool, true}
 use mathlib.Core.List.{List}
 use mathlib.Core.Logic.{_↔_}
+use Prim.Native.Nat.{ℕ}
+use lib.ListN.{length}
 use Rattle.kinds.specs.Model.{KindModel, covers}
 use Rattle.sheets.specs.Cover.{cover, canonical}
 use Rattle.sheets.specs.Census.{Belongs}
@@ -25,6 +27,12 @@ module _ {E A C : Type 0} (m : KindModel E A C) where
   pub record Lists (set : A → Bool) (xs : List E) : Type 0 where
     pub ordered : canonical m xs ≡ true
     pub covering : Same (cover m xs) set
+
+  -- the set has a list, of n elements
+  pub record Counts (set : A → Bool) (n : ℕ) : Type 0 where
+    pub list : List E
+    pub lists : Lists set list
+    pub long : length list ≡ n
 
   -- the list's elements are exactly the maximal elements of the set
   pub record Exactly (set : A → Bool) (xs : List E) : Type 0 where

@@ -4,20 +4,10 @@ use mathlib.Core.List.{List, [], _∷_, _++_}
 use Prim.Native.Nat.{ℕ, _+_, _-_, _<_, _≤_}
 use lib.ListN.{take, drop, length}
 use lib.Seq.{paste}
-use Rattle.std.specs.declared.option.Option.{Option}
-use Rattle.std.specs.declared.option.Option.the-variants.{None, Some}
 use Rattle.lattice.specs.Refusals.{number}
 use Rattle.lattice.specs.declared.refusal.Refusal.{Refusal}
 use Rattle.sheets.specs.declared.sheet.Sheet.{Sheet}
 use Rattle.sheets.specs.Contents.{items, room}
-
--- the elements that there are
-abbrev pub one-listed : {E : Type 0} → Option E → List E
-one-listed None = []
-one-listed (Some x) = x ∷ []
-
-abbrev pub listed : {E : Type 0} → Option E → Option E → List E
-listed left right = one-listed left ++ one-listed right
 
 -- the elements with those from `from` up to `to` given way to ps
 abbrev pub with-put : {E : Type 0} → ℕ → ℕ → List E → List E → List E

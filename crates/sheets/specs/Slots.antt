@@ -8,7 +8,7 @@ use Rattle.lattice.specs.Refusals.{number}
 use Rattle.lattice.specs.declared.refusal.Refusal.{Refusal}
 use Rattle.kinds.specs.Model.{KindModel, covers}
 use Rattle.sheets.specs.Cover.{union, cover, canonical}
-use Rattle.sheets.specs.Maximal.{Lists}
+use Rattle.sheets.specs.Maximal.{Lists, Counts}
 
 module _ {E A C : Type 0} (m : KindModel E A C) where
   -- the first n slots hold the list of what was covered and e
@@ -20,4 +20,4 @@ module _ {E A C : Type 0} (m : KindModel E A C) where
   pub record SlotsStayed (count : ℕ) (e : E) (why : Refusal) (before after : List E) : Type 0 where
     pub number : number why ≡ 19
     pub same : after ≡ before
-    pub full : canonical m (take count before) ≡ true → length before ≤ 4096 → (ys : List E) → Lists m (union (cover m (take count before)) (covers m e)) ys → length before < length ys
+    pub full : canonical m (take count before) ≡ true → length before ≤ 4096 → (n : ℕ) × Counts m (union (cover m (take count before)) (covers m e)) n × (length before < n)

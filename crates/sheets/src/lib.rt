@@ -4,3 +4,4 @@ mod finding;
 mod pieces;
 pub mod sheet;
 pub mod slots;
+pub mod within;

@@ -1,11 +1,12 @@
 // One element beside another.
 ghost use mathlib.Core.Path.{_≡_};
+ghost use lib.ListN.{length};
 ghost use Rattle.std.specs.Orderings.{Decides};
 ghost use Rattle.kinds.specs.Model.{covers};
 ghost use Rattle.kinds.specs.Rules.{Touch};
 ghost use Rattle.sheets.specs.Cover.{ahead, size};
 ghost use Rattle.sheets.specs.Maximal.{Part};
-ghost use Rattle.sheets.specs.Finding.{LeftPart, RightPart};
+ghost use Rattle.sheets.specs.Finding.{LeftPart, RightPart, listed};
 use kinds::kind::Kind;
 use std::cmp::Ordering;
 
@@ -69,4 +70,20 @@ pub fn extent<K: Kind>(e: &K) -> u64
     ensures { λ r. ⌜ r ≡ size model (now (e .entry)) ⌝ }
 {
     (e.end() as i64 - e.start() as i64) as u64
+}
+
+// How many of the two there are.
+pub fn how_many<K: Kind>(left: Option<K>, right: Option<K>) -> usize
+    ensures { λ r. ⌜ r ≡ length (listed left right) ⌝ }
+{
+    match left {
+        Some(_) => match right {
+            Some(_) => 2,
+            None => 1,
+        },
+        None => match right {
+            Some(_) => 1,
+            None => 0,
+        },
+    }
 }

@@ -11,18 +11,20 @@ ghost use Rattle.std.specs.Results.{Cases};
 ghost use Rattle.lattice.specs.Refusals.{number as Number};
 ghost use Rattle.kinds.specs.Model.{covers};
 ghost use Rattle.sheets.specs.Cover.{union, difference, sizes};
-ghost use Rattle.sheets.specs.Maximal.{Part, Same, Exactly};
+ghost use Rattle.sheets.specs.Maximal.{Part, Same, Exactly, Counts};
 ghost use Rattle.sheets.specs.Census.{Census};
 ghost use Rattle.sheets.specs.Contents.{items, room as RoomOf, Sound, covered, Became, Refused, Copied, TooMany};
-ghost use Rattle.sheets.specs.Put.{Opened, Shut, Put, NoPut, listed};
+ghost use Rattle.sheets.specs.Finding.{listed};
+ghost use Rattle.sheets.specs.Put.{Opened, Shut, Put, NoPut};
 use crate::finding::gather;
 use crate::finding::place_of;
 use crate::finding::reach;
-use crate::pieces::contains;
 use crate::pieces::extent;
+use crate::pieces::how_many;
 use crate::pieces::is_same;
 use crate::pieces::left_part;
 use crate::pieces::right_part;
+use crate::within::lies_within;
 use kinds::kind::Kind;
 use lattice::refusal::Refusal;
 
@@ -38,7 +40,7 @@ pub struct Sheet<'a, K> {
 impl<'a, K: Kind> Sheet<'a, K> {
     // An empty sheet over the slots, of which there may be 4096.
     pub fn new(slots: &'a mut [K]) -> Result<Sheet<'a, K>, Refusal>
-        ensures { λ r. ⌜ Cases r (λ s. Sound model s × (items s ≡ []) × (RoomOf s ≡ length (now (slots .entry)))) (λ e. (Number e ≡ 10) × (4096 < length (now (slots .entry)))) ⌝ }
+        ensures { λ r. ⌜ Cases r (λ s. Sound model s × (items s ≡ []) × (RoomOf s ≡ length (now (slots .entry))) × (name (s .slots) ≡ name (slots .entry))) (λ e. (Number e ≡ 10) × (4096 < length (now (slots .entry)))) ⌝ }
     {
         if slots.len() > MOST_SLOTS {
             return Err(Refusal::BadTables);
@@ -185,17 +187,40 @@ impl<'a, K: Kind> Sheet<'a, K> {
         self.put(from, to, left, right)
     }
 
+    // How many elements the sheet would have with the atoms of `e`.
+    pub fn count_with(&self, e: &K) -> usize
+        ensures exact { λ r. ⌜ (Sound model (now (self .entry)) → Counts model (union (covered model (now (self .entry))) (covers model (now (e .entry)))) r) ⌝ }
+        ensures few { λ r. ⌜ r ≤ length (items (now (self .entry))) + 1 ⌝ }
+    {
+        let xs = self.elements();
+        let from = place_of(xs, e);
+        let (_, to) = gather(xs, from, *e);
+        let others = xs.len() - (to - from);
+        others.saturating_add(1)
+    }
+
+    // How many elements the sheet would have without the atoms of `e`.
+    pub fn count_without(&self, e: &K) -> usize
+        ensures exact { λ r. ⌜ (Sound model (now (self .entry)) → Counts model (difference (covered model (now (self .entry))) (covers model (now (e .entry)))) r) ⌝ }
+        ensures few { λ r. ⌜ r ≤ length (items (now (self .entry))) + 1 ⌝ }
+    {
+        let xs = self.elements();
+        let from = place_of(xs, e);
+        let to = reach(xs, from, e);
+        if from == to {
+            return xs.len();
+        }
+        let left = left_part(xs[from], e);
+        let right = right_part(xs[to - 1], e);
+        let others = xs.len() - (to - from);
+        others.saturating_add(how_many(left, right))
+    }
+
     // Whether the sheet covers all atoms of `e`.
     pub fn covers_element(&self, e: &K) -> bool
         ensures { λ r. ⌜ (Sound model (now (self .entry)) → Decides r (Part (covers model (now (e .entry))) (covered model (now (self .entry))))) ⌝ }
     {
-        let xs = self.elements();
-        let at = place_of(xs, e);
-        if at < xs.len() {
-            contains(&xs[at], e)
-        } else {
-            false
-        }
+        lies_within(e, self.elements())
     }
 
     // Whether every atom that the sheet covers is covered by the other.

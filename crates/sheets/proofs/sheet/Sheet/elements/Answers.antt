@@ -1,6 +1,8 @@
 use native.Mathlib.Omega.{arith}
 use mathlib.Core.Path.{_≡_, refl, sym, subst}
 use mathlib.Core.List.{List}
+use Prim.Native.Nat.{_-_}
+use lib.ListN.{take}
 use Rattle.std.proofs.shelf.Lists.{length-take}
 use Rattle.kinds.specs.Model.{KindModel}
 use Rattle.kinds.specs.Rules.{Rules}
@@ -16,9 +18,10 @@ shown m r s xs e h = subst (Exactly m (covered m s)) (sym e) (exactly-maximal m 
 
 pub returns : need.returns
 returns g c =
-    let value = clamped (c .args .self .now .count) _ (c .args .self .now .slots .now) (omega (arith, c .min-n .ensures)) in
+    let s = c .args .self .now in
+    let value : take (c .min-n .result - 0) (s .slots .now) ≡ items s = clamped (s .count) (c .min-n .result - 0) (s .slots .now) (omega (arith, c .min-n .ensures)) in
     record {
       value = value;
       within = simp length-take (omega arith);
-      maximal = shown (g .K·Kind .model) (g .K·Kind·met .rules) (c .args .self .now) _ value;
+      maximal = shown (g .K·Kind .model) (g .K·Kind·met .rules) s _ value;
     }

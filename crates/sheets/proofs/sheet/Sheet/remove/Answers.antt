@@ -8,7 +8,8 @@ use Rattle.std.specs.declared.result.Result.the-variants.{Ok}
 use Rattle.kinds.specs.Model.{covers}
 use Rattle.sheets.specs.Cover.{difference}
 use Rattle.sheets.specs.Contents.{items, covered}
-use Rattle.sheets.specs.Put.{listed, Put}
+use Rattle.sheets.specs.Put.{Put}
+use Rattle.sheets.specs.Finding.{listed}
 use Rattle.sheets.proofs.Added.{Change, settled, settled-longer, settled-taken}
 use Rattle.sheets.proofs.Removed.{Reached, Cut, cut-none, cut-some, removed-change, few-listed}
 use Rattle.sheets.proofs.sheet.Sheet.remove.Needs as need
