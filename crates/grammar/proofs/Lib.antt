@@ -1,0 +1,15 @@
+pub mod Tests
+pub mod Placements
+pub mod Numbers
+pub mod Uniform
+pub mod Record
+pub mod Exists
+pub mod Landings
+pub mod Rooms
+pub mod Settling
+pub mod Gathering
+pub mod Listing
+pub mod Bounds
+pub mod Answering
+pub mod Histories
+pub mod Searching

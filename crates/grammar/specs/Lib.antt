@@ -1,0 +1,13 @@
+pub mod Sets
+pub mod Rules
+pub mod Numbers
+pub mod Places
+pub mod Calls
+pub mod Record
+pub mod State
+pub mod Refusals
+pub mod Moves
+pub mod Again
+pub mod Recorded
+pub mod Meaning
+pub mod Answered

@@ -1,0 +1,4 @@
+pub mod Best
+pub mod Ranks
+pub mod Counting
+pub mod Searched
