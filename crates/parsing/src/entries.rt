@@ -7,12 +7,12 @@ ghost use Rattle.std.specs.Options.{Cases};
 ghost use Rattle.std.specs.Written.{decimal};
 ghost use Rattle.notation.specs.Contents.{EntryIs};
 ghost use Rattle.parsing.specs.Entries.{LengthAfter};
+use notation::contents::Entry;
 use reading::numbers::read_length;
 use reading::words::after_rule;
 use reading::words::after_start;
 use reading::words::after_steps;
 use reading::words::is_body;
-use notation::contents::Entry;
 
 // The length in the line `start N`.
 fn read_start(line: &[u8]) -> Option<u32>
@@ -48,5 +48,9 @@ pub fn read_entry(line: &[u8]) -> Option<Entry>
     if let Some(n) = read_steps(line) {
         return Some(Entry::Steps(n));
     }
-    if is_body(line) { Some(Entry::Body) } else { None }
+    if is_body(line) {
+        Some(Entry::Body)
+    } else {
+        None
+    }
 }

@@ -1,1 +1,5 @@
 pub mod Tabled
+pub mod Chaining
+pub mod Sides
+pub mod Books
+pub mod Ruling

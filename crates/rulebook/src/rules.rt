@@ -1,4 +1,12 @@
 // Rules are added, and their sides grow, element by element.
+ghost use mathlib.Core.List.{[]};
+ghost use mathlib.Core.Path.{_≡_};
+ghost use Prim.Native.Nat.{_≤_};
+ghost use lib.ListN.{length};
+ghost use Rattle.std.specs.Results.{Cases};
+ghost use Rattle.lattice.specs.Refusals.{number as Number};
+ghost use Rattle.rulebook.specs.Growing.{latest-record as LatestRecord, Closed, SideGrew, TableStayed, Added, NotAdded, Grown, NotGrown, left-side, right-side, with-left, with-right};
+ghost use Rattle.rulebook.specs.Rulebooks.{rules-of as RulesOf, KeptSide, Kept};
 use crate::records::RuleRecord;
 use crate::records::SideRecord;
 use crate::rulebook::Rulebook;
@@ -16,14 +24,18 @@ const EMPTY: Stretch = Stretch { from: 0, to: 0 };
 
 impl<'a, M: Kind, C: Kind> SideTables<'a, M, C> {
     // Two tables without a stretch.
-    pub fn new(marks: &'a mut [M], cuts: &'a mut [C]) -> Result<SideTables<'a, M, C>, Refusal> {
+    pub fn new(marks: &'a mut [M], cuts: &'a mut [C]) -> Result<SideTables<'a, M, C>, Refusal>
+        ensures { λ r. ⌜ Cases r (λ t. KeptSide (M·Kind .model) (C·Kind .model) [] t × (length (t .marks .slots .now) ≡ length (now (marks .entry))) × (length (t .cuts .slots .now) ≡ length (now (cuts .entry)))) (λ why. (Number why ≡ 10) × (length (now (marks .entry)) ≤ 4096 → length (now (cuts .entry)) ≤ 4096 → ⊥)) ⌝ }
+    {
         let marks = Table::new(marks)?;
         let cuts = Table::new(cuts)?;
         Ok(SideTables { marks, cuts })
     }
 
     // The stretches of the latest rule.
-    fn record(&self) -> SideRecord {
+    fn record(&self) -> SideRecord
+        ensures { λ r. ⌜ r ≡ LatestRecord (now (self .entry)) ⌝ }
+    {
         SideRecord {
             marks: self.marks.stretch(),
             cuts: self.cuts.stretch(),
@@ -31,13 +43,17 @@ impl<'a, M: Kind, C: Kind> SideTables<'a, M, C> {
     }
 
     // The latest rule is closed, and an empty one begins.
-    fn close(&mut self) {
+    fn close(&mut self)
+        ensures { λ _. ⌜ Closed (now (self .entry)) (now (self .exit)) ⌝ }
+    {
         self.marks.close();
         self.cuts.close();
     }
 
     // The latest rule's side becomes its sum with one element.
-    fn sum(&mut self, stroke: Stroke<M, C>) -> Result<(), Refusal> {
+    fn sum(&mut self, stroke: Stroke<M, C>) -> Result<(), Refusal>
+        ensures { λ r. ⌜ Cases r (λ _. SideGrew (M·Kind .model) (C·Kind .model) stroke (now (self .entry)) (now (self .exit))) (λ why. (now (self .exit) ≡ now (self .entry)) × TableStayed (M·Kind .model) (C·Kind .model) stroke why (now (self .entry)) (now (self .exit))) ⌝ }
+    {
         match stroke {
             Stroke::Mark(e) => self.marks.sum(e),
             Stroke::Cut(e) => self.cuts.sum(e),
@@ -47,7 +63,10 @@ impl<'a, M: Kind, C: Kind> SideTables<'a, M, C> {
 
 impl<'a, M: Kind, C: Kind> Rulebook<'a, M, C> {
     // No rule, and tables for the sides of all.
-    pub fn new(left: SideTables<'a, M, C>, right: SideTables<'a, M, C>) -> Rulebook<'a, M, C> {
+    pub fn new(left: SideTables<'a, M, C>, right: SideTables<'a, M, C>) -> Rulebook<'a, M, C>
+        ensures rules { λ b. ⌜ RulesOf b ≡ [] ⌝ }
+        ensures kept { λ b. ⌜ (KeptSide (M·Kind .model) (C·Kind .model) [] (left .entry) → KeptSide (M·Kind .model) (C·Kind .model) [] (right .entry) → Kept (M·Kind .model) (C·Kind .model) b) ⌝ }
+    {
         let side = SideRecord {
             marks: EMPTY,
             cuts: EMPTY,
@@ -64,7 +83,9 @@ impl<'a, M: Kind, C: Kind> Rulebook<'a, M, C> {
     }
 
     // A rule with empty sides is added.
-    pub fn rule(&mut self) -> Result<(), Refusal> {
+    pub fn rule(&mut self) -> Result<(), Refusal>
+        ensures { λ r. ⌜ Cases r (λ _. Added (M·Kind .model) (C·Kind .model) (now (self .entry)) (now (self .exit))) (λ why. NotAdded (M·Kind .model) (C·Kind .model) why (now (self .entry)) (now (self .exit))) ⌝ }
+    {
         let n = self.count;
         if n >= MOST_RULES {
             return Err(Refusal::RulebookFull);
@@ -79,7 +100,9 @@ impl<'a, M: Kind, C: Kind> Rulebook<'a, M, C> {
     }
 
     // The left side of the latest rule becomes its sum with one element.
-    pub fn left(&mut self, stroke: Stroke<M, C>) -> Result<(), Refusal> {
+    pub fn left(&mut self, stroke: Stroke<M, C>) -> Result<(), Refusal>
+        ensures { λ r. ⌜ Cases r (λ _. Grown (M·Kind .model) (C·Kind .model) left-side with-left stroke (now (self .entry)) (now (self .exit))) (λ why. NotGrown (M·Kind .model) (C·Kind .model) left-side (now (self .entry) .left) stroke why (now (self .entry)) (now (self .exit))) ⌝ }
+    {
         let n = self.count;
         if n == 0 || n > MOST_RULES {
             return Err(Refusal::NoRuleYet);
@@ -92,7 +115,9 @@ impl<'a, M: Kind, C: Kind> Rulebook<'a, M, C> {
     }
 
     // The right side of the latest rule becomes its sum with one element.
-    pub fn right(&mut self, stroke: Stroke<M, C>) -> Result<(), Refusal> {
+    pub fn right(&mut self, stroke: Stroke<M, C>) -> Result<(), Refusal>
+        ensures { λ r. ⌜ Cases r (λ _. Grown (M·Kind .model) (C·Kind .model) right-side with-right stroke (now (self .entry)) (now (self .exit))) (λ why. NotGrown (M·Kind .model) (C·Kind .model) right-side (now (self .entry) .right) stroke why (now (self .entry)) (now (self .exit))) ⌝ }
+    {
         let n = self.count;
         if n == 0 || n > MOST_RULES {
             return Err(Refusal::NoRuleYet);

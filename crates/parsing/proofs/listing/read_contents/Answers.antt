@@ -42,10 +42,11 @@ loop-reader-again c =
     let grown = e .3 (inv .0) in
     let ended = sym (t .0 .ended) ∙ t .1 in
     let longer = one-longer _ _ _ (grown .0) in
-    let line = t .0 .line ∙ ap (λ (b : Bool). c .loop-reader .reader .line + cond b 1 0) ended in
-    (grown .1,
-     goes-on _ (rest (c .loop-reader .reader)) _ _ (e .0) (inv .1) ended (sym (t .0 .text) ∙ e .2) (grown .0) ∙ ap (λ (r : List ℕ). entry-lines (entries (c .take-entry .last .contents)) ++ r) (sym (t .0 .after)),
-     omega (arith, line, longer, inv .2))
+    let line = t .0 .line ∙ ap (λ (b : Bool). c .loop-reader .reader .line + cond b 1 0) ended in (
+      grown .1,
+      goes-on _ (rest (c .loop-reader .reader)) _ _ (e .0) (inv .1) ended (sym (t .0 .text) ∙ e .2) (grown .0) ∙ ap (λ (r : List ℕ). entry-lines (entries (c .take-entry .last .contents)) ++ r) (sym (t .0 .after)),
+      omega (arith, line, longer, inv .2),
+    )
 
 pub returns-in-Break-take-entry : need.returns-in-Break-take-entry
 returns-in-Break-take-entry c =

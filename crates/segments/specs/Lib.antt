@@ -1,0 +1,3 @@
+pub mod Directions
+pub mod Edges
+pub mod Segments

@@ -1,0 +1,3 @@
+// Line segments between lattice points.
+mod arithmetic;
+pub mod segment;
