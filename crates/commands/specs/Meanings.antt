@@ -53,8 +53,7 @@ abbrev pub in-range : List ℤ → Bool
 in-range [] = true
 in-range (i ∷ zs) = inks i && all-ranged zs
 
--- the fault of a line that is no command: `words` has the word of each command of the body, with the count of its numbers
--- and whether they are an ink and coordinates
+-- the line has the form of a stroke, and its fields are numbers
 abbrev pub StrokeFormed : List ℕ → Type 0
 StrokeFormed line = Formed (codes "mark") 3 line ⊎ Formed (codes "cut") 5 line
 

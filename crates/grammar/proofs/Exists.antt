@@ -30,11 +30,11 @@ use Rattle.grammar.proofs.Placements.{turn-below, shift-low, shift-high, befor
 use Rattle.grammar.proofs.Tests.{or-not, not-or}
 
 -- each is earlier than all that stand behind it
-abbrev Sorted : List Placement → Type 0
+abbrev pub Sorted : List Placement → Type 0
 Sorted [] = Unit {0}
 Sorted (p ∷ ps) = ((q : Placement) → Mem ps q → Earlier p q) × Sorted ps
 
-sorted-rises : (ps : List Placement) → Sorted ps → Rises ps
+pub sorted-rises : (ps : List Placement) → Sorted ps → Rises ps
 sorted-rises [] s j k p q a b l = absurd (none-some a)
 sorted-rises (x ∷ xs) s j k p q a b l = go (sorted-rises xs (s .1)) (split x xs j p a) (split x xs k q b)
   where

@@ -1,7 +1,7 @@
 -- Any elements can be gathered into a canonical list that covers the same.
 use mathlib.Core.Path.{_≡_, refl, sym, ap, subst, _∙_}
 use mathlib.Core.Bool.{Bool, true, false, _||_}
-use mathlib.Core.List.{List, [], _∷_, _++_}
+use mathlib.Core.List.{List, [], _∷_}
 use mathlib.Core.Logic.{_⊎_, inl, inr}
 use native.Mathlib.Omega.{arith}
 use lib.IntN.{ℤ}
@@ -18,6 +18,7 @@ use Rattle.kinds.proofs.Numbers.{cases-ltZ}
 use Rattle.kinds.proofs.Stretching.{union-left, union-right, union-carrier, union-start}
 use Rattle.sheets.specs.Cover.{cover, ahead}
 use Rattle.sheets.proofs.Ahead.{Ahead, ahead-from, ahead-to, ahead-trans, gap}
+use Rattle.sheets.proofs.Joined.{or-assoc}
 use Rattle.sheets.proofs.Order.{Before, Pairs}
 
 or-swap : (x y z : Bool) → (x || (y || z)) ≡ (y || (x || z))
@@ -25,10 +26,6 @@ or-swap true true z = refl
 or-swap true false z = refl
 or-swap false true z = refl
 or-swap false false z = refl
-
-or-group : (x y z : Bool) → ((x || y) || z) ≡ (x || (y || z))
-or-group true y z = refl
-or-group false y z = refl
 
 module _ {E A C : Type 0} (m : KindModel E A C) (r : Rules m) where
   -- of two elements one stands before the other, or they touch
@@ -80,7 +77,7 @@ module _ {E A C : Type 0} (m : KindModel E A C) (r : Rules m) where
             n .0,
             record {
               pairs = n .1 .pairs;
-              covering = λ a. n .1 .covering a ∙ ap (λ (b : Bool). b || cover m fs a) (j .1 a) ∙ or-group (covers m e a) (covers m f a) (cover m fs a);
+              covering = λ a. n .1 .covering a ∙ ap (λ (b : Bool). b || cover m fs a) (j .1 a) ∙ or-assoc (covers m e a) (covers m f a) (cover m fs a);
               after = λ g x k. n .1 .after g (ahead-union g e f (j .0) (j .1) x (k .0)) (k .1);
             },
           )
@@ -91,7 +88,3 @@ module _ {E A C : Type 0} (m : KindModel E A C) (r : Rules m) where
       let w = gathered-up xs in
       let n = added (w .0) (w .1) x in
       (n .0, n .1 .pairs, λ a. n .1 .covering a ∙ ap (λ (b : Bool). covers m x a || b) (w .2 a))
-
-  pub cover-append : (xs ys : List E) (a : A) → cover m (xs ++ ys) a ≡ (cover m xs a || cover m ys a)
-  cover-append [] ys a = refl
-  cover-append (x ∷ xs) ys a = ap (λ (b : Bool). covers m x a || b) (cover-append xs ys a) ∙ sym (or-group (covers m x a) (cover m xs a) (cover m ys a))

@@ -17,10 +17,11 @@ use Rattle.kinds.proofs.Numbers.{lt-from, le-from, lt-to, le-to, cases-ltZ}
 use Rattle.kinds.proofs.Standing.{atom}
 use Rattle.sheets.specs.Cover.{cover}
 use Rattle.sheets.specs.Maximal.{Lists}
+use Rattle.sheets.proofs.Joined.{cover-append}
 use Rattle.sheets.proofs.Order.{pairs-to}
 use Rattle.grammar.specs.Sets.{Set}
 use Rattle.grammar.proofs.Exists.{counted-up, own-atom}
-use Rattle.grammar.proofs.Gathering.{gathered-up, cover-append}
+use Rattle.grammar.proofs.Gathering.{gathered-up}
 use Rattle.grammar.proofs.Tests.{along}
 
 spot : ℕ → ℤ
@@ -99,7 +100,7 @@ module _ {E A C : Type 0} (m : KindModel E A C) (r : Rules m) where
   spots-cover S x (suc k) a =
       let one = spot-covers S x k (cases-ltZ (spot k) (m .start x)) (cases-ltZ (spot k) (m .end x)) (S (atom m r x (spot k))) refl a in
       let rest = spots-cover S x k a in
-      let c = cover-append m r (at-spot S x k) (spots S x k) a in
+      let c = cover-append m (at-spot S x k) (spots S x k) a in
       (λ h. fore (one .0) (rest .0) (or-cases _ _ (along c h)), λ h. along (sym c) (back (one .1) (rest .1) h (cases-order (h .2 .0) k)))
     where
       fore : (cover m (at-spot S x k) a ≡ true → Spotted S x k a) → (cover m (spots S x k) a ≡ true → Hit S x k a) → (cover m (at-spot S x k) a ≡ true) ⊎ (cover m (spots S x k) a ≡ true) → Hit S x (suc k) a
@@ -122,7 +123,7 @@ module _ {E A C : Type 0} (m : KindModel E A C) (r : Rules m) where
   within-covers S (x ∷ xs) a =
       let one = spots-cover S x 4001 a in
       let rest = within-covers S xs a in
-      let c = cover-append m r (spots S x 4001) (within S xs) a in
+      let c = cover-append m (spots S x 4001) (within S xs) a in
       (λ h. fore (one .0) (rest .0) (or-cases _ _ (along c h)), λ h. along (sym c) (back (one .1) (rest .1) (h .1) (or-cases _ _ (h .0))))
     where
       fore : (cover m (spots S x 4001) a ≡ true → Hit S x 4001 a) → (cover m (within S xs) a ≡ true → (cover m xs a ≡ true) × (S a ≡ true)) → (cover m (spots S x 4001) a ≡ true) ⊎ (cover m (within S xs) a ≡ true) → (cover m (x ∷ xs) a ≡ true) × (S a ≡ true)

@@ -16,10 +16,11 @@ use Rattle.grammar.specs.Answered.{Determined}
 use Rattle.grammar.specs.Calls.{Call, stroke, pick, undo, count, next, list, Answer, refused, done, counted, next-is, listed, isRefused, Event, Seen, seen, Asks}
 use Rattle.grammar.specs.Meaning.{Meaning}
 use Rattle.grammar.specs.Moves.{Tells, Does, Accepts, Moves, History}
+use Rattle.grammar.specs.Numbering.{PlacesNumbered, SameNumbers}
 use Rattle.grammar.specs.Numbers.{nth, ordinal}
 use Rattle.grammar.specs.Places.{Numbered, Listed}
 use Rattle.grammar.specs.Record.{Step, Record, blank, Fed}
-use Rattle.grammar.specs.Recorded.{PlacesNumbered, SameNumbers, Recorded}
+use Rattle.grammar.specs.Recorded.{Recorded}
 use Rattle.grammar.specs.Refusals.{Refuses, Passes, EmptyLeft, BufferFull, table}
 use Rattle.grammar.specs.Rules.{Rule, side, Filled, Alike}
 use Rattle.grammar.specs.Sets.{Sets, SameCover}

@@ -8,6 +8,7 @@ pub mod State
 pub mod Refusals
 pub mod Moves
 pub mod Again
+pub mod Numbering
 pub mod Recorded
 pub mod Meaning
 pub mod Answered

@@ -5,7 +5,8 @@ use Rattle.kinds.specs.Model.{KindModel}
 use Rattle.sheets.specs.Maximal.{Exactly-maximal, One-list}
 use Rattle.grammar.specs.Calls.{Event}
 use Rattle.grammar.specs.Moves.{History}
-use Rattle.grammar.specs.Recorded.{PlacesNumbered, SameNumbers, Recorded}
+use Rattle.grammar.specs.Numbering.{PlacesNumbered, SameNumbers}
+use Rattle.grammar.specs.Recorded.{Recorded}
 use Rattle.grammar.specs.Rules.{Alike}
 use Rattle.grammar.specs.Sets.{SameCover}
 use Rattle.grammar.specs.State.{Setting, State, covered}
@@ -17,8 +18,8 @@ module _ {EM AM CM EC AC CC : Type 0} (M : KindModel EM AM CM) (C : KindModel EC
     pub cuts-are-maximal : Exactly-maximal C
     pub one-list-of-marks : One-list M
     pub one-list-of-cuts : One-list C
-    -- After any history every placement that puts a rule's non-empty left side wholly on what is covered has exactly one
-    -- number, nothing else has one, numbers rise, and `count`, `next` and `list` answer by them.
+    -- After any history the places of each rule are numbered: a place has one number and no other, what is no place has
+    -- none, later placements have greater numbers, and the calls that ask for places answer by these numbers.
     pub every-place-has-one-number : (t : Setting EM EC) (es : List (Event EM EC)) (d : State EM EC) → History M C t es d → PlacesNumbered M C t d
     -- Two drawings that cover the same, under rules whose sides cover the same, have the same sheets, numbers and answers,
     -- whatever led there.

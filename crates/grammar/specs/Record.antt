@@ -1,5 +1,5 @@
--- The plain record of a drawing: the accepted strokes in order, then the steps that were not undone; and the sets that
--- these make. It is fed the rules, each call, and whether the call was refused, and never an answer.
+-- The plain record of a drawing: all strokes that were accepted, first to last, and the steps that still stand; and the
+-- sets that these make. It is given rules, calls, and of each call whether it was refused; it is never given an answer.
 use mathlib.Core.Path.{_≡_}
 use mathlib.Core.Bool.{Bool, true, false}
 use mathlib.Core.List.{List, [], _∷_, _++_}

@@ -1,7 +1,7 @@
 -- That an element covers an atom, taken apart and put together. Only the order of carriers is used, so this serves for
 -- showing a kind's rules too.
 use mathlib.Core.Path.{_≡_, refl, sym, ap, subst, _∙_}
-use mathlib.Core.Bool.{Bool, true, false, _&&_, _||_}
+use mathlib.Core.Bool.{Bool, true, false, _&&_}
 use mathlib.Core.Logic.{_⊎_, inl, inr, ⊎-elim}
 use native.Mathlib.Omega.{arith}
 use lib.IntN.{ℤ}
@@ -22,7 +22,7 @@ same-tests true false f g = sym (f refl)
 same-tests false true f g = g refl
 same-tests false false f g = refl
 
-equal-from : (o : Ordering) → isEq o ≡ true → o ≡ Equal
+pub equal-from : (o : Ordering) → isEq o ≡ true → o ≡ Equal
 equal-from Less h = absurd (false≢true h)
 equal-from Equal h = refl
 equal-from Greater h = absurd (false≢true h)

@@ -1,15 +1,14 @@
 -- The carrier and the stretch of a union and of a part.
-use mathlib.Core.Path.{_≡_, refl, sym, ap, subst, _∙_}
-use mathlib.Core.Bool.{Bool, true, false, _&&_, _||_}
+use mathlib.Core.Path.{_≡_, sym, _∙_}
 use mathlib.Core.Logic.{_⊎_, inl, inr, ⊎-elim}
 use native.Mathlib.Omega.{arith}
-use lib.IntN.{ℤ, pos, negsuc, _+ℤ_}
+use lib.IntN.{ℤ, negsuc, _+ℤ_}
 use lib.Signed.{_<ℤ_, _≤ℤ_, ltZ, leZ}
 use Rattle.std.specs.Numbers.{maxZ, minZ}
 use Rattle.std.proofs.shelf.Tests.{and-parts, and-from, or-cases, or-left, or-right}
 use Rattle.std.proofs.shelf.Signed.{ints}
 use Rattle.kinds.specs.Model.{KindModel, covers}
-use Rattle.kinds.specs.Rules.{Rules, Covers, Touch, Union, Stretch, Slice}
+use Rattle.kinds.specs.Rules.{Rules, Union, Stretch, Slice}
 use Rattle.kinds.proofs.Numbers.{lt-from, le-from, lt-to, le-to}
 use Rattle.kinds.proofs.Having.{Has, Contains, has-from, has-to}
 use Rattle.kinds.proofs.Standing.{atom, has-atom, at-atom, first, last, has-first, at-first, has-last, at-last, contains-from}

@@ -1,1 +1,4 @@
 pub mod Growing
+pub mod Numbering
+pub mod Stroking
+pub mod Making

@@ -25,12 +25,12 @@ impl<'a, M: Kind, C: Kind> Scene<'a, M, C> {
         ensures { λ r. ⌜ ((ps : List Placement) → Listed (M·Kind .model) (C·Kind .model) (now (self .entry)) ps → r ≡ length ps) ⌝ }
     {
         let mut last = (-1, 0, 0);
-        let mut n = 0;
+        let mut found = 0;
         while let Some(p) = self.next(last) {
-            n += 1;
+            found += 1;
             last = p.numbers();
         }
-        n
+        found
     }
 
     // The place with a number.

@@ -8,7 +8,7 @@ use kinds::kind::Kind;
 use lattice::placement::Placement;
 use sheets::within::lies_within;
 
-#[derive(Clone, Copy)]
+#[derive(Drop)]
 pub struct Scene<'a, M, C> {
     pub left_marks: &'a [M],
     pub left_cuts: &'a [C],

@@ -20,12 +20,12 @@ use Rattle.sheets.specs.Census.{Belongs}
 use Rattle.sheets.specs.Maximal.{Lists, Counts, Same}
 use Rattle.sheets.specs.Contents.{items, room, covered, Sound, Became, Refused}
 use Rattle.sheets.specs.declared.sheet.Sheet.{Sheet}
-use Rattle.sheets.proofs.Order.{Before, Pairs, pairs-from, pairs-across, all-belongs, belongs-append, belongs-right}
+use Rattle.sheets.proofs.Order.{Pairs, pairs-from, pairs-across, all-belongs, belongs-append, belongs-right}
 use Rattle.sheets.proofs.Joined.{cover-append, or-none}
 use Rattle.sheets.proofs.Unique.{one-list, belongs-cover}
 use Rattle.sheets.proofs.Contained.{belongs-at}
 use Rattle.sheet_sums.specs.Whole.{by, Gains, Begun, Fits}
-use Rattle.sheet_sums.proofs.Steps.{Stepwise, lists-at, lists-self, again, either, all, apart-all}
+use Rattle.sheet_sums.proofs.Steps.{Stepwise, lists-at, again, either, all, apart-all}
 
 absorbed : (b c : Bool) → (b ≡ true → c ≡ true) → (b || c) ≡ c
 absorbed true c h = sym (h refl)

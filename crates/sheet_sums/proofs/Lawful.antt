@@ -1,13 +1,11 @@
 -- The laws of sums and differences.
-use mathlib.Core.Path.{_≡_, refl, sym, ap, _∙_}
+use mathlib.Core.Path.{_≡_, refl, ap, _∙_}
 use mathlib.Core.Bool.{Bool, true, false, _||_, _&&_, not}
-use mathlib.Core.List.{List}
 use Rattle.std.proofs.shelf.Tests.{or-left}
 use Rattle.kinds.specs.Model.{KindModel}
 use Rattle.kinds.specs.Rules.{Rules}
 use Rattle.kinds.proofs.Having.{same-tests}
 use Rattle.sheets.specs.Cover.{cover}
-use Rattle.sheets.specs.Maximal.{Lists}
 use Rattle.sheets.proofs.Joined.{or-swap, or-assoc}
 use Rattle.sheets.proofs.Unique.{one-list}
 use Rattle.sheet_sums.specs.Laws.{Sums-exist, Differences-exist, Sum-commutes, Sum-associates, Sum-with-itself, Difference-then-sum, Part-of-sum, Part-both-ways}

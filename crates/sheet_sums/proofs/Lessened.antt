@@ -2,7 +2,7 @@
 use mathlib.Core.Path.{_≡_, refl, sym, ap, subst, _∙_}
 use mathlib.Core.Bool.{Bool, true, false, _||_, _&&_, not, cond}
 use mathlib.Core.List.{List, [], _∷_, _++_}
-use mathlib.Core.Logic.{_⊎_, inl, inr, ⊎-elim}
+use mathlib.Core.Logic.{_⊎_, inl, ⊎-elim}
 use native.Mathlib.Omega.{arith}
 use Prim.Native.Nat.{ℕ, _+_}
 use lib.IntN.{ℤ}
@@ -14,23 +14,22 @@ use Rattle.std.specs.declared.option.Option.{Option}
 use Rattle.std.specs.declared.option.Option.the-variants.{None, Some}
 use Rattle.std.proofs.shelf.Lists.{length-append}
 use Rattle.std.proofs.shelf.Elements.{all-weaker, all-append}
-use Rattle.std.proofs.shelf.Tests.{cases-bool, both-ways, false≢true}
+use Rattle.std.proofs.shelf.Tests.{cases-bool, both-ways}
 use Rattle.std.proofs.shelf.Signed.{ints}
 use Rattle.kinds.specs.Model.{KindModel, covers}
 use Rattle.kinds.specs.Rules.{Rules, Touch, Stretch}
-use Rattle.kinds.specs.Answers.{Parts}
 use Rattle.kinds.proofs.Numbers.{cases-ltZ, lt-to}
 use Rattle.kinds.proofs.Having.{Has, has-from, same-tests}
 use Rattle.kinds.proofs.Standing.{nonempty}
-use Rattle.sheets.specs.Cover.{cover, ahead, canonical}
-use Rattle.sheets.specs.Finding.{Left, LeftPart, Right, RightPart, listed, one-listed}
+use Rattle.sheets.specs.Cover.{cover, ahead}
+use Rattle.sheets.specs.Finding.{LeftPart, Right, RightPart, listed, one-listed}
 use Rattle.sheets.specs.Maximal.{Lists}
 use Rattle.sheets.proofs.Ahead.{gap, ahead-sooner}
 use Rattle.sheets.proofs.Order.{Before, Pairs, pairs-to, pairs-append}
 use Rattle.sheets.proofs.Joined.{cover-append, or-none}
 use Rattle.sheets.proofs.Sides.{left-is, right-is}
 use Rattle.sheets.proofs.Removed.{Rest, rest-is, Ends, swap}
-use Rattle.sheet_sums.proofs.Touching.{touch, one-if, touch-from, touch-to, touch-not, touch-turn, ahead-apart, after-not}
+use Rattle.sheet_sums.proofs.Touching.{touch, one-if, touch-from, touch-to, after-not}
 
 -- both sides without e
 split-not : (a b e : Bool) → ((a && not e) || (b && not e)) ≡ ((a || b) && not e)

@@ -1,5 +1,5 @@
 -- Sum and difference, each element by element.
-use mathlib.Core.Path.{_≡_, refl, sym, ap, _∙_}
+use mathlib.Core.Path.{_≡_, refl, sym, ap}
 use mathlib.Core.Bool.{Bool, true, false, _||_, _&&_, not}
 use mathlib.Core.List.{List}
 use native.Mathlib.Omega.{arith}
@@ -11,15 +11,12 @@ use Rattle.sheets.specs.Cover.{cover, ahead, canonical}
 use Rattle.sheets.specs.Maximal.{Lists}
 use Rattle.sheets.proofs.Joined.{or-assoc, or-none}
 use Rattle.sheets.proofs.Order.{pairs-from}
+use Rattle.sheets.proofs.Removed.{and-true}
 use Rattle.sheets.proofs.Unique.{one-list}
 use Rattle.sheet_sums.specs.Whole.{plus, minus, by}
 use Rattle.sheet_sums.proofs.Steps.{Stepwise, lists-at}
-use Rattle.sheet_sums.proofs.Summed.{Sum, sum, sum-lists}
-use Rattle.sheet_sums.proofs.Lessened.{Less, less, less-lists}
-
-and-true : (s : Bool) → (s && not false) ≡ s
-and-true true = refl
-and-true false = refl
+use Rattle.sheet_sums.proofs.Summed.{sum, sum-lists}
+use Rattle.sheet_sums.proofs.Lessened.{less, less-lists}
 
 minus-both : (s t u : Bool) → minus s (t || u) ≡ minus (minus s t) u
 minus-both true true u = refl

@@ -1,15 +1,13 @@
 -- The sum of a list with one element, and how it changes what another element touches.
 use mathlib.Core.Path.{_≡_, refl, sym, ap, subst, _∙_}
 use mathlib.Core.Bool.{Bool, true, false, _||_}
-use mathlib.Core.List.{List, [], _∷_, _++_}
+use mathlib.Core.List.{List, [], _∷_}
 use mathlib.Core.Logic.{_⊎_, inl, inr, ⊎-elim}
 use native.Mathlib.Omega.{arith}
-use Prim.Native.Nat.{ℕ, zero, suc, _+_}
+use Prim.Native.Nat.{_+_}
 use lib.ListN.{length}
 use lib.Signed.{_<ℤ_, _≤ℤ_}
 use Rattle.std.specs.Numbers.{maxZ, minZ}
-use Rattle.std.specs.shelf.Lists.{All}
-use Rattle.std.specs.declared.cmp.Ordering.the-variants.{Less}
 use Rattle.std.proofs.shelf.Elements.{all-weaker}
 use Rattle.std.proofs.shelf.Tests.{cases-bool, both-ways}
 use Rattle.std.proofs.shelf.Signed.{ints}
@@ -18,13 +16,13 @@ use Rattle.kinds.specs.Rules.{Rules, Touch, Union}
 use Rattle.kinds.proofs.Having.{same-tests}
 use Rattle.kinds.proofs.Standing.{nonempty}
 use Rattle.kinds.proofs.Stretching.{union-carrier, union-start, union-end}
-use Rattle.sheets.specs.Cover.{cover, ahead, canonical}
+use Rattle.sheets.specs.Cover.{cover, ahead}
 use Rattle.sheets.specs.Maximal.{Lists}
-use Rattle.sheets.proofs.Ahead.{Ahead, ahead-from, ahead-to, ahead-trans, ahead-turn, ahead-sooner, gap, apart}
+use Rattle.sheets.proofs.Ahead.{Ahead, ahead-from, ahead-to, ahead-trans, ahead-sooner, gap, apart}
 use Rattle.sheets.proofs.Order.{Before, Pairs, pairs-to}
 use Rattle.sheets.proofs.Joined.{or-swap, or-assoc}
 use Rattle.sheets.proofs.Unique.{one-list}
-use Rattle.sheet_sums.proofs.Touching.{touch, one-if, one-if-not, touching, touch-from, touch-to, touch-not, touch-turn, ahead-apart, ahead-not, after-not, touching-none, cases-touch}
+use Rattle.sheet_sums.proofs.Touching.{touch, one-if, one-if-not, touching, touch-from, touch-to, touch-turn, ahead-apart, after-not, touching-none, cases-touch}
 
 or-past : (a b c : Bool) → (a || (b || c)) ≡ ((b || a) || c)
 or-past true true c = refl

@@ -1,30 +1,23 @@
 -- How many elements of a list one element touches.
-use mathlib.Core.Path.{_≡_, refl, sym, ap, subst, _∙_}
-use mathlib.Core.Bool.{Bool, true, false, _&&_, _||_, cond}
-use mathlib.Core.List.{List, [], _∷_, _++_}
+use mathlib.Core.Path.{_≡_, refl, sym, ap, _∙_}
+use mathlib.Core.Bool.{Bool, true, false, _&&_, cond}
+use mathlib.Core.List.{List, [], _∷_}
 use mathlib.Core.Logic.{_⊎_, inl, inr, ⊎-elim}
 use native.Mathlib.Omega.{arith}
 use native.Mathlib.Nat.{zero-add}
-use Prim.Native.Nat.{ℕ, zero, suc, _+_}
-use lib.Signed.{_<ℤ_, _≤ℤ_, leZ}
+use Prim.Native.Nat.{ℕ, _+_}
+use lib.Signed.{leZ}
 use Rattle.std.specs.Orderings.{isEq}
-use Rattle.std.specs.declared.cmp.Ordering.{Ordering}
-use Rattle.std.specs.declared.cmp.Ordering.the-variants.{Less, Equal, Greater}
+use Rattle.std.specs.declared.cmp.Ordering.the-variants.{Equal}
 use Rattle.std.proofs.shelf.Tests.{false≢true, and-parts, and-from, cases-bool}
 use Rattle.std.proofs.shelf.Signed.{ints}
-use Rattle.kinds.specs.Model.{KindModel, covers}
-use Rattle.kinds.specs.Rules.{Rules, Touch, Union}
+use Rattle.kinds.specs.Model.{KindModel}
+use Rattle.kinds.specs.Rules.{Rules, Touch}
+use Rattle.kinds.proofs.Having.{equal-from}
 use Rattle.kinds.proofs.Numbers.{le-from, le-to}
-use Rattle.kinds.proofs.Having.{same-tests}
-use Rattle.kinds.proofs.Standing.{nonempty}
 use Rattle.sheets.specs.Cover.{ahead}
 use Rattle.sheets.proofs.Ahead.{gap, apart}
 use Rattle.sheets.proofs.Order.{Before}
-
-equal-from : (o : Ordering) → isEq o ≡ true → o ≡ Equal
-equal-from Less h = absurd (false≢true h)
-equal-from Equal h = refl
-equal-from Greater h = absurd (false≢true h)
 
 abbrev pub one-if : Bool → ℕ
 one-if b = cond b 1 0

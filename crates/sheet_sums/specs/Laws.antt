@@ -1,6 +1,6 @@
 -- The laws of sums and differences, of any lists of elements of a kind.
 use mathlib.Core.Path.{_≡_}
-use mathlib.Core.Bool.{Bool, true}
+use mathlib.Core.Bool.{true}
 use mathlib.Core.List.{List}
 use Rattle.kinds.specs.Model.{KindModel}
 use Rattle.sheets.specs.Cover.{cover, union, difference, canonical}

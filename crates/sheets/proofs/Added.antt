@@ -19,7 +19,7 @@ use Rattle.kinds.specs.Model.{KindModel, covers}
 use Rattle.kinds.specs.Rules.{Rules, Touch}
 use Rattle.sheets.specs.declared.sheet.Sheet.{Sheet}
 use Rattle.sheets.specs.Cover.{cover, union, ahead, canonical}
-use Rattle.sheets.specs.Maximal.{Lists, Counts, Same}
+use Rattle.sheets.specs.Maximal.{Lists, Counts}
 use Rattle.sheets.specs.Finding.{Parted, Whole}
 use Rattle.sheets.specs.Contents.{items, room, covered, Sound, Became, Refused}
 use Rattle.sheets.specs.Put.{Put, NoPut, with-put}

@@ -1,7 +1,7 @@
 -- Whether a canonical list covers all of an element: the one place to look.
-use mathlib.Core.Path.{_≡_, refl, sym, ap, subst, _∙_}
+use mathlib.Core.Path.{_≡_, sym, ap, subst, _∙_}
 use mathlib.Core.Bool.{Bool, true, false}
-use mathlib.Core.List.{List, [], _∷_, _++_}
+use mathlib.Core.List.{List, [], _∷_}
 use mathlib.Core.Logic.{_⊎_, inl, inr, ⊎-elim}
 use native.Mathlib.Omega.{arith}
 use Prim.Native.Nat.{ℕ, zero, suc, _+_, _<_, _≤_}
@@ -14,14 +14,14 @@ use Rattle.std.proofs.shelf.Signed.{ints}
 use Rattle.kinds.specs.Model.{KindModel, covers}
 use Rattle.kinds.specs.Rules.{Rules}
 use Rattle.kinds.proofs.Having.{Contains, contains-covers}
-use Rattle.kinds.proofs.Standing.{nonempty, contains-from}
+use Rattle.kinds.proofs.Standing.{nonempty}
 use Rattle.sheets.specs.Cover.{cover, ahead, canonical}
 use Rattle.sheets.specs.Census.{Belongs}
 use Rattle.sheets.specs.Maximal.{Part}
 use Rattle.sheets.specs.Finding.{Parted}
 use Rattle.sheets.proofs.Ahead.{gap, ahead-later}
 use Rattle.sheets.proofs.Order.{Pairs, pairs-from, pairs-right, all-belongs, belongs-append}
-use Rattle.sheets.proofs.Unique.{Found, inside-one, belongs-cover}
+use Rattle.sheets.proofs.Unique.{inside-one, belongs-cover}
 
 pub belongs-at : {X : Type 0} (xs : List X) (i : ℕ) (x d : X) → i < length xs → x ≡ getD xs i d → Belongs x xs
 belongs-at [] i x d l e = absurd (omega arith)

@@ -4,10 +4,10 @@ use mathlib.Core.Bool.{Bool, true, false, _||_}
 use mathlib.Core.List.{List, [], _∷_, _++_}
 use mathlib.Core.Logic.{_⊎_, inl, inr, ⊎-elim}
 use native.Mathlib.Omega.{arith}
-use Prim.Native.Nat.{ℕ, zero, suc, _+_, _<_, _≤_}
+use Prim.Native.Nat.{ℕ, zero, suc, _+_, _<_}
 use lib.ListN.{length, getD, take, drop}
-use lib.Signed.{_<ℤ_, _≤ℤ_, ltZ}
-use Rattle.std.specs.Numbers.{maxZ, minZ}
+use lib.Signed.{_<ℤ_}
+use Rattle.std.specs.Numbers.{minZ}
 use Rattle.std.specs.shelf.Lists.{All}
 use Rattle.std.proofs.shelf.Elements.{all-weaker, all-getD}
 use Rattle.std.proofs.shelf.Tests.{both-ways, cases-bool}
@@ -15,10 +15,10 @@ use Rattle.std.proofs.shelf.Signed.{ints}
 use Rattle.kinds.specs.Model.{KindModel, covers}
 use Rattle.kinds.specs.Rules.{Rules, Touch, Union}
 use Rattle.kinds.proofs.Stretching.{union-carrier, union-start}
-use Rattle.sheets.specs.Cover.{cover, ahead, canonical}
+use Rattle.sheets.specs.Cover.{cover, ahead}
 use Rattle.sheets.specs.Finding.{Whole}
 use Rattle.sheets.proofs.Ahead.{Ahead, ahead-from, ahead-to, ahead-trans, gap, apart}
-use Rattle.sheets.proofs.Order.{Before, Pairs, pairs-from, pairs-left, pairs-right, pairs-across, pairs-append, all-left, all-right}
+use Rattle.sheets.proofs.Order.{Before, Pairs, pairs-left, pairs-right, pairs-across, pairs-append, all-left, all-right}
 
 pub or-assoc : (a b c : Bool) → ((a || b) || c) ≡ (a || (b || c))
 or-assoc true b c = refl

@@ -1,16 +1,16 @@
 -- Lists in canonical form, all pairs at once.
-use mathlib.Core.Path.{_≡_, refl, sym, ap, subst, _∙_}
-use mathlib.Core.Bool.{Bool, true, false, _&&_, _||_}
+use mathlib.Core.Path.{_≡_, refl, subst}
+use mathlib.Core.Bool.{true, false}
 use mathlib.Core.List.{List, [], _∷_, _++_}
 use mathlib.Core.Logic.{_⊎_, inl, inr, ⊎-elim}
-use lib.Signed.{_<ℤ_, _≤ℤ_}
+use lib.Signed.{_<ℤ_}
 use Rattle.std.specs.shelf.Lists.{All}
-use Rattle.std.proofs.shelf.Tests.{false≢true, and-parts, and-from, or-cases, or-left, or-right}
+use Rattle.std.proofs.shelf.Tests.{false≢true, and-parts, and-from, or-cases}
 use Rattle.std.proofs.shelf.Elements.{all-weaker, all-append}
 use Rattle.kinds.specs.Model.{KindModel, covers}
 use Rattle.kinds.specs.Rules.{Rules}
 use Rattle.kinds.proofs.Having.{has-from}
-use Rattle.sheets.specs.Cover.{cover, ahead, leads, canonical}
+use Rattle.sheets.specs.Cover.{cover, ahead, canonical}
 use Rattle.sheets.specs.Census.{Belongs}
 use Rattle.sheets.proofs.Ahead.{ahead-trans, past}
 

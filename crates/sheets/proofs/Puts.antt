@@ -1,9 +1,9 @@
 -- A sheet opened and written.
-use mathlib.Core.Path.{_≡_, refl, sym, ap, subst, _∙_}
-use mathlib.Core.List.{List, [], _∷_, _++_}
-use Prim.Native.Nat.{ℕ, _+_, _-_, _<_, _≤_, min}
+use mathlib.Core.Path.{_≡_, ap, _∙_}
+use mathlib.Core.List.{List}
+use Prim.Native.Nat.{ℕ, _+_, _-_, _≤_, min}
 use native.Mathlib.Omega.{arith}
-use lib.ListN.{length, take, drop}
+use lib.ListN.{length, take}
 use Rattle.std.proofs.shelf.Lists.{length-take}
 use Rattle.lattice.specs.declared.refusal.Refusal.{Refusal}
 use Rattle.sheets.specs.declared.sheet.Sheet.{Sheet}

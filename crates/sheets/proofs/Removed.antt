@@ -26,7 +26,7 @@ use Rattle.kinds.proofs.Standing.{nonempty}
 use Rattle.sheets.specs.Cover.{cover, difference, ahead, canonical}
 use Rattle.sheets.specs.declared.sheet.Sheet.{Sheet}
 use Rattle.sheets.specs.Census.{Belongs}
-use Rattle.sheets.specs.Finding.{Parted, Left, LeftPart, Right, RightPart}
+use Rattle.sheets.specs.Finding.{Parted, LeftPart, RightPart}
 use Rattle.sheets.specs.Contents.{items, covered}
 use Rattle.sheets.specs.Finding.{one-listed, listed}
 use Rattle.sheets.proofs.Ahead.{ahead-to, ahead-later, ahead-sooner, gap, past}
@@ -36,7 +36,7 @@ use Rattle.sheets.proofs.Joined.{cover-append, whole-none, Clear, before-rest}
 use Rattle.sheets.proofs.Spliced.{length-with}
 use Rattle.sheets.proofs.Added.{split-rest, Change}
 
-and-true : (b : Bool) → (b && true) ≡ b
+pub and-true : (b : Bool) → (b && true) ≡ b
 and-true true = refl
 and-true false = refl
 

@@ -1,10 +1,9 @@
 -- Two elements, of which one contains the other, and what one leaves of the other.
-use mathlib.Core.Path.{_≡_, refl, sym, subst, _∙_}
+use mathlib.Core.Path.{_≡_, sym, subst, _∙_}
 use mathlib.Core.Bool.{Bool, true, false}
 use mathlib.Core.Logic.{⊎-elim}
 use native.Mathlib.Omega.{arith}
 use lib.IntN.{ℤ}
-use lib.Signed.{_<ℤ_, _≤ℤ_}
 use Rattle.std.specs.Numbers.{maxZ, minZ}
 use Rattle.std.specs.Orderings.{Decides}
 use Rattle.std.specs.declared.option.Option.{Option}
@@ -12,10 +11,10 @@ use Rattle.std.specs.declared.option.Option.the-variants.{None, Some}
 use Rattle.std.proofs.shelf.Tests.{false≢true}
 use Rattle.std.proofs.shelf.Signed.{ints}
 use Rattle.kinds.specs.Model.{KindModel, covers}
-use Rattle.kinds.specs.Rules.{Rules, Stretch, Slice}
+use Rattle.kinds.specs.Rules.{Rules}
 use Rattle.kinds.specs.Answers.{Parts}
 use Rattle.kinds.proofs.Numbers.{cases-ltZ}
-use Rattle.kinds.proofs.Having.{Contains, contains-covers, contains-self}
+use Rattle.kinds.proofs.Having.{Contains, contains-covers}
 use Rattle.kinds.proofs.Standing.{nonempty, contains-from, alike}
 use Rattle.kinds.proofs.Stretching.{slice-carrier, slice-start, slice-end}
 use Rattle.sheets.specs.Maximal.{Part}

@@ -8,7 +8,7 @@ use lib.ListN.{length, take, drop, set}
 use lib.Seq.{paste}
 use native.Mathlib.Numerals.{add-one}
 use Rattle.std.proofs.shelf.Tests.{cases-lt}
-use Rattle.std.proofs.shelf.Lists.{take-all, take-take, take-append-drop, take-more-set, drop-take, drop-set-lt, length-set, length-take-le, length-take, length-drop, length-append, take-at, drop-at, take-append-le}
+use Rattle.std.proofs.shelf.Lists.{take-all, take-take, take-append-drop, take-more-set, drop-take, drop-set-lt, length-set, length-take-le, length-drop, length-append, take-at, drop-at, take-append-le}
 
 -- what lies past the end is not counted
 pub clamped : {X : Type 0} (n k : ℕ) (xs : List X) → k ≡ min n (length xs) → take k xs ≡ take n xs

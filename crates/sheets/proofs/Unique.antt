@@ -1,21 +1,20 @@
 -- A canonical list is the one list of the maximal elements of what it covers.
 use mathlib.Core.Path.{_≡_, refl, sym, ap, subst, _∙_}
-use mathlib.Core.Bool.{Bool, true, false, _||_}
+use mathlib.Core.Bool.{Bool, true, false}
 use mathlib.Core.List.{List, [], _∷_}
 use mathlib.Core.Logic.{_⊎_, inl, inr, ⊎-elim}
-use mathlib.Core.Logic.{_↔_}
 use native.Mathlib.Omega.{arith}
-use lib.Signed.{_<ℤ_, _≤ℤ_}
+use lib.Signed.{_≤ℤ_}
 use Rattle.std.proofs.shelf.Tests.{false≢true, or-cases, or-left, or-right}
 use Rattle.std.proofs.shelf.Signed.{ints}
 use Rattle.kinds.specs.Model.{KindModel, covers}
 use Rattle.kinds.specs.Rules.{Rules}
 use Rattle.kinds.proofs.Numbers.{cases-ltZ}
 use Rattle.kinds.proofs.Having.{Has, Contains, has-from, has-to, contains-has, contains-covers}
-use Rattle.kinds.proofs.Standing.{atom, has-atom, at-atom, first, last, has-first, at-first, contains-from, alike}
-use Rattle.sheets.specs.Cover.{cover, ahead, canonical}
+use Rattle.kinds.proofs.Standing.{atom, has-atom, at-atom, first, has-first, at-first, contains-from, alike}
+use Rattle.sheets.specs.Cover.{cover, ahead}
 use Rattle.sheets.specs.Census.{Belongs}
-use Rattle.sheets.specs.Maximal.{Part, Same, Maximal, Lists, Exactly, Exactly-maximal, One-list}
+use Rattle.sheets.specs.Maximal.{Part, Same, Maximal, Exactly-maximal, One-list}
 use Rattle.sheets.proofs.Ahead.{ahead-self, ahead-turn, past}
 use Rattle.sheets.proofs.Order.{Before, Pairs, all-belongs, pairs-from, cover-past}
 

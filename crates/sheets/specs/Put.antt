@@ -1,6 +1,6 @@
 -- A part of a sheet's elements that gives way to others.
 use mathlib.Core.Path.{_≡_}
-use mathlib.Core.List.{List, [], _∷_, _++_}
+use mathlib.Core.List.{List, _++_}
 use Prim.Native.Nat.{ℕ, _+_, _-_, _<_, _≤_}
 use lib.ListN.{take, drop, length}
 use lib.Seq.{paste}

@@ -1,5 +1,4 @@
-use mathlib.Core.Path.{_≡_, ap, _∙_}
-use lib.ListN.{take}
+use mathlib.Core.Path.{ap, _∙_}
 use Rattle.std.proofs.shelf.Lists.{take-all}
 use Rattle.kinds.specs.Model.{covers}
 use Rattle.sheets.specs.Cover.{cover}

@@ -1,5 +1,5 @@
 use borrow.Author.Needs.{needs}
-use mathlib.Core.Bool.{true, false}
+use mathlib.Core.Bool.{false}
 use lib.Signed.{leZ}
 use mir.Val.{toZ, ofZ}
 use mir.Syntax.{w32}

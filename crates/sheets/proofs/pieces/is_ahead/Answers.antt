@@ -1,4 +1,3 @@
-use mathlib.Core.Path.{_≡_, ap, sym, _∙_}
 use borrow.Author.Needs.{needs}
 use Rattle.sheets.specs.Cover.{ahead}
 use Rattle.sheets.proofs.pieces.is_ahead.Needs as need

@@ -13,11 +13,11 @@ use Rattle.search.proofs.scene.Scene.count.Needs as need
 pub loop-p-holds : need.loop-p-holds
 loop-p-holds g c = (boxed-first, omega arith, λ ps h. passed-none ps (pos 0) (pos 0))
 
-pub add-n : need.add-n
-add-n g c =
+pub add-found : need.add-found
+add-found g c =
     let a = c .loop-p .inv .1 in
     let b = rank-high (bound (c .loop-p .last)) (c .loop-p .inv .0) in
-    let f : c .loop-p .n + 1 < 4294967296 = omega arith in
+    let f : c .loop-p .found + 1 < 4294967296 = omega arith in
     record { fits = f }
 
 pub loop-p-less : need.loop-p-less
@@ -34,8 +34,8 @@ loop-p-again g c =
     let b = c .loop-p .inv .1 in (
       s .0,
       omega arith,
-      λ ps h. subst (λ (t : Triple). Passed ps t (c .loop-p .n + 1)) (sym (c .numbers-last .ensures)) (one-more (g .M·Kind .model) (g .C·Kind .model) (sought (g .M·Kind .model) (g .C·Kind .model) (c .args .self .now)) (drawn (g .M·Kind .model) (g .C·Kind .model) (c .args .self .now)) ps (h .numbered) (bound (c .loop-p .last)) (c .loop-p .n) (c .loop-p .inv .2 ps h) (c .in-Some .p) (c .in-Some .ensures tt .least (h .sorted)) .1),
+      λ ps h. subst (λ (t : Triple). Passed ps t (c .loop-p .found + 1)) (sym (c .numbers-last .ensures)) (one-more (g .M·Kind .model) (g .C·Kind .model) (sought (g .M·Kind .model) (g .C·Kind .model) (c .args .self .now)) (drawn (g .M·Kind .model) (g .C·Kind .model) (c .args .self .now)) ps (h .numbered) (bound (c .loop-p .last)) (c .loop-p .found) (c .loop-p .inv .2 ps h) (c .in-Some .p) (c .in-Some .ensures tt .least (h .sorted)) .1),
     )
 
 pub returns : need.returns
-returns g c = λ ps h. no-more (g .M·Kind .model) (g .C·Kind .model) (sought (g .M·Kind .model) (g .C·Kind .model) (c .args .self .now)) (drawn (g .M·Kind .model) (g .C·Kind .model) (c .args .self .now)) ps (h .numbered) (bound (c .loop-p .last)) (c .loop-p .n) (c .loop-p .inv .2 ps h) (c .in-rest .ensures tt .least (h .sorted))
+returns g c = λ ps h. no-more (g .M·Kind .model) (g .C·Kind .model) (sought (g .M·Kind .model) (g .C·Kind .model) (c .args .self .now)) (drawn (g .M·Kind .model) (g .C·Kind .model) (c .args .self .now)) ps (h .numbered) (bound (c .loop-p .last)) (c .loop-p .found) (c .loop-p .inv .2 ps h) (c .in-rest .ensures tt .least (h .sorted))

@@ -11,8 +11,8 @@ use Rattle.search.proofs.scene.Scene.count.Given as given
 abbrev pub Inv-loop-p : given.InvT-loop-p
 Inv-loop-p g l =
     Boxed (bound (l .last))
-    × (l .n ≤ rank (bound (l .last)))
-    × ((ps : List Placement) → Listed (g .M·Kind .model) (g .C·Kind .model) (l .self) ps → Passed ps (bound (l .last)) (l .n))
+    × (l .found ≤ rank (bound (l .last)))
+    × ((ps : List Placement) → Listed (g .M·Kind .model) (g .C·Kind .model) (l .self) ps → Passed ps (bound (l .last)) (l .found))
 
 abbrev pub μ-loop-p : given.MeasureT-loop-p
 μ-loop-p g l = 576144009 - rank (bound (l .last))

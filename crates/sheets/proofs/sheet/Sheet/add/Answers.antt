@@ -1,9 +1,9 @@
-use mathlib.Core.Path.{_≡_, subst}
+use mathlib.Core.Path.{subst}
 use mathlib.Core.List.{[], _∷_}
 use Rattle.kinds.specs.Model.{covers}
 use Rattle.sheets.specs.Cover.{union}
 use Rattle.sheets.specs.Contents.{items, covered}
-use Rattle.sheets.proofs.Added.{Gathered, Change, settled, settled-longer, settled-taken, added-change}
+use Rattle.sheets.proofs.Added.{Gathered, settled, settled-longer, settled-taken, added-change}
 use Rattle.sheets.proofs.sheet.Sheet.add.Needs as need
 
 pub returns : need.returns

@@ -1,4 +1,4 @@
-use mathlib.Core.Path.{_≡_, ap, subst, _∙_}
+use mathlib.Core.Path.{ap, subst, _∙_}
 use Rattle.std.specs.Orderings.{Decides}
 use Rattle.kinds.specs.Model.{covers}
 use Rattle.sheets.specs.Cover.{canonical, cover}

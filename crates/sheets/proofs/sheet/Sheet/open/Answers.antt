@@ -1,10 +1,8 @@
-use borrow.Author.Needs.{needs}
-use mathlib.Core.Path.{_≡_, refl, ap, sym, subst, _∙_}
+use mathlib.Core.Path.{refl, ap, _∙_}
 use native.Mathlib.Omega.{arith}
-use Prim.Native.Nat.{_≤_, _+_, _-_}
+use Prim.Native.Nat.{_+_, _-_}
 use lib.ListN.{length, drop}
 use lib.Seq.{paste}
-use Rattle.sheets.specs.Contents.{items}
 use Rattle.sheets.proofs.sheet.Sheet.open.Needs as need
 
 pub sub-self : need.sub-self

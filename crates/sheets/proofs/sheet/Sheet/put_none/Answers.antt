@@ -1,5 +1,5 @@
-use mathlib.Core.Path.{_≡_, refl}
-use mathlib.Core.List.{[], _∷_}
+use mathlib.Core.Path.{refl}
+use mathlib.Core.List.{[]}
 use Rattle.std.proofs.shelf.Results.{cases-weaker}
 use Rattle.sheets.proofs.Puts.{puts, no-puts}
 use Rattle.sheets.proofs.sheet.Sheet.put_none.Needs as need

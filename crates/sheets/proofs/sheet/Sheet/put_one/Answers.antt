@@ -1,10 +1,7 @@
 use native.Mathlib.Omega.{arith}
-use borrow.Author.Needs.{needs}
-use mathlib.Core.Path.{_≡_, refl, ap, _∙_}
+use mathlib.Core.Path.{refl}
 use mathlib.Core.List.{[], _∷_}
-use lib.ListN.{length}
 use Rattle.std.proofs.shelf.Results.{err-from-errBy}
-use Rattle.sheets.specs.declared.sheet.Sheet.{Sheet}
 use Rattle.sheets.proofs.Puts.{puts, no-puts, opened-room}
 use Rattle.sheets.proofs.sheet.Sheet.put_one.Needs as need
 

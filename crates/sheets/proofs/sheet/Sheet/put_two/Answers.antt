@@ -1,9 +1,8 @@
 use native.Mathlib.Omega.{arith}
 use native.Mathlib.Numerals.{add-one}
-use borrow.Author.Needs.{needs}
-use mathlib.Core.Path.{_≡_, refl, ap, _∙_}
+use mathlib.Core.Path.{refl, ap}
 use mathlib.Core.List.{[], _∷_}
-use lib.ListN.{length, set}
+use lib.ListN.{set}
 use Rattle.std.proofs.shelf.Lists.{length-set}
 use Rattle.std.proofs.shelf.Results.{err-from-errBy}
 use Rattle.sheets.proofs.Puts.{puts, no-puts, opened-room}

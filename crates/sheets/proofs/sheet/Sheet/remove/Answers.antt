@@ -1,6 +1,6 @@
 use native.Mathlib.Omega.{arith}
-use mathlib.Core.Path.{_≡_, refl, ap, sym, subst, _∙_}
-use mathlib.Core.List.{[], _∷_, _++_}
+use mathlib.Core.Path.{refl, ap, sym, subst, _∙_}
+use mathlib.Core.List.{[], _++_}
 use Prim.Native.Nat.{_+_, _-_, _<_, _≤_}
 use lib.ListN.{length, take, drop}
 use Rattle.std.proofs.shelf.Lists.{take-append-drop}
@@ -10,7 +10,7 @@ use Rattle.sheets.specs.Cover.{difference}
 use Rattle.sheets.specs.Contents.{items, covered}
 use Rattle.sheets.specs.Put.{Put}
 use Rattle.sheets.specs.Finding.{listed}
-use Rattle.sheets.proofs.Added.{Change, settled, settled-longer, settled-taken}
+use Rattle.sheets.proofs.Added.{settled, settled-longer, settled-taken}
 use Rattle.sheets.proofs.Removed.{Reached, Cut, cut-none, cut-some, removed-change, few-listed}
 use Rattle.sheets.proofs.sheet.Sheet.remove.Needs as need
 

@@ -1,4 +1,4 @@
-use mathlib.Core.Path.{_≡_, refl, ap, sym, subst, _∙_}
+use mathlib.Core.Path.{_≡_, refl, ap, sym, _∙_}
 use mathlib.Core.Bool.{Bool, true, false}
 use mathlib.Core.List.{List}
 use native.Mathlib.Omega.{arith}
@@ -9,7 +9,7 @@ use Rattle.std.proofs.shelf.Tests.{false≢true}
 use Rattle.std.proofs.shelf.Lists.{same-lists, getD-default}
 use Rattle.kinds.specs.Model.{KindModel}
 use Rattle.kinds.specs.Rules.{Rules}
-use Rattle.sheets.specs.Cover.{cover, canonical}
+use Rattle.sheets.specs.Cover.{cover}
 use Rattle.sheets.specs.Maximal.{Same}
 use Rattle.sheets.specs.Contents.{items, covered, Sound}
 use Rattle.sheets.specs.declared.sheet.Sheet.{Sheet}

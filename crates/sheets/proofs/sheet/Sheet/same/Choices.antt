@@ -1,6 +1,6 @@
 use mathlib.Core.Path.{_≡_}
 use Prim.Native.Nat.{ℕ, _<_}
-use lib.ListN.{getD, length}
+use lib.ListN.{getD}
 use Rattle.sheets.proofs.sheet.Sheet.same.Given as given
 
 abbrev pub Inv-loop-i : given.InvT-loop-i

@@ -1,0 +1,3 @@
+pub mod Wrote
+pub mod Lines
+pub mod Shown

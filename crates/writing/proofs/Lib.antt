@@ -1,3 +1,0 @@
-pub mod Spelling
-pub mod Writing
-pub mod Sizes
