@@ -14,6 +14,7 @@ use std::alloc::Global;
 use std::io;
 use std::io::Read;
 use std::io::Write;
+use elements::ink::InkClone;
 
 // How many slots each table has, how many bytes the output may have, and how many of a file are read: one more than the
 // longest file has, so that a longer one is told from it.
@@ -21,16 +22,24 @@ const SLOTS: usize = 1024;
 const OUTPUT: usize = 65536;
 const READ: u64 = 65537;
 
-// Something to fill the tables with.
-fn fillers() -> Result<(Mark, Cut), Refusal> {
-    let mark = Ink::new(0, Point::new(0, 0)?)?;
-    let cut = Ink::new(0, Segment::new(0, 0, 1, 0)?)?;
-    Ok((mark, cut))
+// Something to fill the tables of marks with.
+fn any_mark() -> Result<Mark, Refusal> {
+    let point = Point::new(0, 0)?;
+    Ink::new(0, point)
+}
+
+// And those of cuts.
+fn any_cut() -> Result<Cut, Refusal> {
+    let segment = Segment::new(0, 0, 1, 0)?;
+    Ink::new(0, segment)
 }
 
 // Carries out a file in new tables.
 fn carry_out(heap: Global, file: &[u8], out: &mut [u8]) -> io::Result<Result<usize, Stop>> {
-    let Ok((mark, cut)) = fillers() else {
+    let Ok(mark) = any_mark() else {
+        return Err(io::Error::from(io::ErrorKind::InvalidData));
+    };
+    let Ok(cut) = any_cut() else {
         return Err(io::Error::from(io::ErrorKind::InvalidData));
     };
     let mut left_marks = vec![in heap; mark; SLOTS]?;
