@@ -27,7 +27,7 @@ pub record KindModel (E A C : Type 0) : Type 0 where
   pub place : Placement → E → Option E
 
 module _ {E A C : Type 0} (m : KindModel E A C) where
-  -- an element covers all atoms of its carrier from its start up to, and not including, its end
+  -- what an element covers: the atoms on its carrier whose positions lie between its two ends, the first included
   unfoldable pub covers : E → A → Bool
   covers e a = m .proper a && (isEq (m .order (m .carrier e) (m .on a)) && (leZ (m .start e) (m .at a) && ltZ (m .at a) (m .end e)))
 

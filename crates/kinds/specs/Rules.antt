@@ -24,7 +24,7 @@ module _ {E A C : Type 0} (m : KindModel E A C) where
   abbrev pub Covers : E → A → Type 0
   Covers e a = covers m e a ≡ true
 
-  -- two elements of one carrier that overlap or touch
+  -- on the same carrier, overlapping or end to end
   pub record Touch (d e : E) : Type 0 where
     pub same : m .carrier d ≡ m .carrier e
     pub left : m .start d ≤ℤ m .end e
@@ -45,7 +45,7 @@ module _ {E A C : Type 0} (m : KindModel E A C) where
   Slice e from to p = (a : A) → covers m p a ≡ (covers m e a && (leZ from (m .at a) && ltZ (m .at a) to))
 
   pub record Rules : Type 0 where
-    -- Every element covers at least one atom, and only atoms of the field. Elements that cover the same atoms are equal.
+    -- No element is empty, none leaves the field, and what is covered tells elements apart.
     pub some : (e : E) → (a : A) × Covers e a
     pub inside : (e : E) (a : A) → Covers e a → m .field a ≡ true
     pub alike : (d e : E) → ((a : A) → covers m d a ≡ covers m e a) → d ≡ e
@@ -56,15 +56,14 @@ module _ {E A C : Type 0} (m : KindModel E A C) where
     pub atoms : (a : A) → m .field a ≡ true → m .proper a ≡ true
     pub low : (a : A) → m .field a ≡ true → negsuc 1999 ≤ℤ m .at a
     pub high : (a : A) → m .field a ≡ true → m .at a ≤ℤ pos 2000
-    -- Two elements of one carrier that overlap or touch have a union. Each stretch of an element is an element.
+    -- Elements that touch have a union, and stretches of elements are elements.
     pub joined : (d e : E) → Touch d e → (j : E) × Union d e j
     pub parted : (e : E) (from to : ℤ) → Stretch e from to → (p : E) × Slice e from to p
-    -- A placement takes each atom to one atom. A placed element covers exactly the images of the element's atoms,
+    -- Atoms are moved to atoms. Placing an element gives the one that covers just the moved atoms,
     -- and there is none exactly if one of these lies outside the field.
     pub carried : (s : ℕ) (u v : ℤ) (a : A) → s < 8 → m .proper a ≡ true → m .proper (m .image s u v a) ≡ true
     pub placed : (p : Placement) (e f : E) → m .place p e ≡ Some f → (b : A) → Covers f b ↔ ((a : A) × Covers e a × (moved m p a ≡ b))
     pub refused : (p : Placement) (e : E) → (m .place p e ≡ None) ↔ ((a : A) × Covers e a × (m .field (moved m p a) ≡ false))
-    -- Under one turn at most one pair of shifts takes one atom to another, and between atoms of the field both shifts
-    -- lie from -4000 to 4000.
+    -- A turn leaves at most one pair of shifts from one atom to another; within the field neither passes -4000 or 4000.
     pub one : (s : ℕ) (u v p q : ℤ) (a b : A) → s < 8 → m .proper a ≡ true → m .image s u v a ≡ b → m .image s p q a ≡ b → (u ≡ p) × (v ≡ q)
     pub near : (s : ℕ) (u v : ℤ) (a b : A) → s < 8 → m .field a ≡ true → m .field b ≡ true → m .image s u v a ≡ b → (negsuc 3999 ≤ℤ u) × (u ≤ℤ pos 4000) × (negsuc 3999 ≤ℤ v) × (v ≤ℤ pos 4000)

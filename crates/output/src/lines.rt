@@ -5,12 +5,12 @@ ghost use Prim.Native.Nat.{ℕ, _+_, _≤_};
 ghost use lib.ListN.{length};
 ghost use Rattle.output.specs.Wrote.{Wrote};
 ghost use Rattle.output.specs.Lines.{mark-line as MarkLine, cut-line as CutLine};
-use commands::Cut;
-use commands::Mark;
 use crate::commands::cut_size;
 use crate::commands::mark_size;
 use crate::commands::write_cut;
 use crate::commands::write_mark;
+use commands::Cut;
+use commands::Mark;
 
 pub trait Inscribed {
     ghost line: { Self → List ℕ };

@@ -11,7 +11,9 @@ use lattice::refusal::Refusal;
 use notation::refused::Refused;
 
 const REFUSED: &[u8; 7] = b"refused";
+
 const LINE: &[u8; 5] = b" line";
+
 const LINE_END: &[u8; 1] = b"\n";
 
 // Writes the line into the front of the buffer and answers how many bytes it has.

@@ -2,6 +2,7 @@
 use commands::Cut;
 use commands::Mark;
 use elements::ink::Ink;
+use elements::ink::InkClone;
 use elements::point::Point;
 use lattice::refusal::Refusal;
 use notation::refused::Refused;
@@ -14,12 +15,13 @@ use std::alloc::Global;
 use std::io;
 use std::io::Read;
 use std::io::Write;
-use elements::ink::InkClone;
 
 // How many slots each table has, how many bytes the output may have, and how many of a file are read: one more than the
 // longest file has, so that a longer one is told from it.
 const SLOTS: usize = 1024;
+
 const OUTPUT: usize = 65536;
+
 const READ: u64 = 65537;
 
 // Something to fill the tables of marks with.
@@ -76,7 +78,10 @@ fn main(rt: LibcRuntime) -> io::Result<()> {
         Ok(n) => n,
         Err(Stop::Refused(refused)) => told(refused, out.as_mut_slice())?,
         Err(Stop::PickAhead(line)) => {
-            eprintln!(rt, "panel: line {line} is a pick, and picks are not carried out yet")?;
+            eprintln!(
+                rt,
+                "panel: line {line} is a pick, and picks are not carried out yet"
+            )?;
             return Err(io::Error::from(io::ErrorKind::InvalidInput));
         }
     };

@@ -80,21 +80,27 @@ mark-fault line rest n e (inl (inl h)) =
     inl (h .0, λ f. ⊎-elim (no-form (codes "mark") line rest 3 (omega arith) (λ a b k. ap (drop 5) k) e (h .1)) (other-form (codes "mark") line rest (codes "cut") 5 109 99 (λ z. omega (arith, z)) (λ r. refl) cut-first e) f)
 mark-fault line rest n e (inl (inr h)) =
     let s = h .1 in
-    inr (inl (h .0, inl (formed (codes "mark") line rest 3 (s .0) (omega arith) (s .1) (s .2) e),
-    λ m. ⊎-elim (no-numeric (codes "mark") line rest 3 (s .0) (omega arith) (λ a b k. ap (drop 5) k) e (s .1) (s .2) (s .3)) (other-numeric (codes "mark") line rest (codes "cut") 5 109 99 (λ z. omega (arith, z)) (λ r. refl) cut-first e) m))
+    inr (inl (
+      h .0,
+      inl (formed (codes "mark") line rest 3 (s .0) (omega arith) (s .1) (s .2) e),
+      λ m. ⊎-elim (no-numeric (codes "mark") line rest 3 (s .0) (omega arith) (λ a b k. ap (drop 5) k) e (s .1) (s .2) (s .3)) (other-numeric (codes "mark") line rest (codes "cut") 5 109 99 (λ z. omega (arith, z)) (λ r. refl) cut-first e) m,
+    ))
 mark-fault line rest n e (inr h) =
     let m = numeric (codes "mark") line rest 3 (h .1) (omega arith) (h .2) (h .3) e in
     inr (inr (inl (h .0, inl (m .0, ap in-range (m .1) ∙ h .4))))
 
 pub cut-fault : (line rest : List ℕ) (n : ℕ) → line ≡ codes "cut " ++ rest
-  → FieldFault 5 rest n ⊎ ((n ≡ 6) × (zs : List ℤ) × (length zs ≡ 5) × NumbersAre rest zs × (in-range zs ≡ false)) ⊎ ((n ≡ 7) × (i x y : ℤ) × NumbersAre rest (i ∷ x ∷ y ∷ x ∷ y ∷ []) × (in-range (i ∷ x ∷ y ∷ x ∷ y ∷ []) ≡ true))
-  → StrokeFault line n
+    → FieldFault 5 rest n ⊎ ((n ≡ 6) × (zs : List ℤ) × (length zs ≡ 5) × NumbersAre rest zs × (in-range zs ≡ false)) ⊎ ((n ≡ 7) × (i x y : ℤ) × NumbersAre rest (i ∷ x ∷ y ∷ x ∷ y ∷ []) × (in-range (i ∷ x ∷ y ∷ x ∷ y ∷ []) ≡ true))
+    → StrokeFault line n
 cut-fault line rest n e (inl (inl h)) =
     inl (h .0, λ f. ⊎-elim (other-form (codes "cut") line rest (codes "mark") 3 99 109 (λ z. omega (arith, z)) (λ r. refl) mark-first e) (no-form (codes "cut") line rest 5 (omega arith) (λ a b k. ap (drop 4) k) e (h .1)) f)
 cut-fault line rest n e (inl (inr h)) =
     let s = h .1 in
-    inr (inl (h .0, inr (formed (codes "cut") line rest 5 (s .0) (omega arith) (s .1) (s .2) e),
-    λ m. ⊎-elim (other-numeric (codes "cut") line rest (codes "mark") 3 99 109 (λ z. omega (arith, z)) (λ r. refl) mark-first e) (no-numeric (codes "cut") line rest 5 (s .0) (omega arith) (λ a b k. ap (drop 4) k) e (s .1) (s .2) (s .3)) m))
+    inr (inl (
+      h .0,
+      inr (formed (codes "cut") line rest 5 (s .0) (omega arith) (s .1) (s .2) e),
+      λ m. ⊎-elim (other-numeric (codes "cut") line rest (codes "mark") 3 99 109 (λ z. omega (arith, z)) (λ r. refl) mark-first e) (no-numeric (codes "cut") line rest 5 (s .0) (omega arith) (λ a b k. ap (drop 4) k) e (s .1) (s .2) (s .3)) m,
+    ))
 cut-fault line rest n e (inr (inl h)) =
     let m = numeric (codes "cut") line rest 5 (h .1) (omega arith) (h .2) (h .3) e in
     inr (inr (inl (h .0, inr (m .0, ap in-range (m .1) ∙ h .4))))
@@ -103,7 +109,7 @@ cut-fault line rest n e (inr (inr h)) =
 
 -- faults behind `pick`
 pub pick-fault : (line rest : List ℕ) (n : ℕ) → line ≡ codes "pick " ++ rest → (line ≡ codes "undo" → ⊥) → FieldFault 2 rest n
-  → ((n ≡ 4) × (line ≡ codes "undo" → ⊥) × (Formed (codes "pick") 2 line → ⊥)) ⊎ ((n ≡ 5) × Formed (codes "pick") 2 line × (Numeric (codes "pick") 2 line → ⊥))
+    → ((n ≡ 4) × (line ≡ codes "undo" → ⊥) × (Formed (codes "pick") 2 line → ⊥)) ⊎ ((n ≡ 5) × Formed (codes "pick") 2 line × (Numeric (codes "pick") 2 line → ⊥))
 pick-fault line rest n e u (inl h) = inl (h .0, u, no-form (codes "pick") line rest 2 (omega arith) (λ a b k. ap (drop 5) k) e (h .1))
 pick-fault line rest n e u (inr h) =
     let s = h .1 in

@@ -23,7 +23,7 @@ fn first_of(b: u8) -> First
     }
 }
 
-// A number from 0 up: one to nine digits, no leading zero but in 0 itself.
+// A number from 0 up, of at most nine digits; only 0 begins with a zero.
 pub fn read_length(field: &[u8]) -> Option<u32>
     ensures { λ r. ⌜ LengthIs (now (field .entry)) r ⌝ }
 {

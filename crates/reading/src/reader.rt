@@ -1,4 +1,4 @@
-// A reader goes over the caller's bytes without copying them and knows the number of the line at which it stands.
+// A reader walks over bytes that are lent to it, copies none of them, and knows on which line it stands.
 ghost use denote.Ref.{now};
 ghost use mathlib.Core.Path.{_≡_};
 ghost use Prim.Native.Nat.{_+_, _≤_};

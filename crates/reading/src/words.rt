@@ -1,4 +1,4 @@
-// The words that open a line, each told by its bytes, with the rest of the line bound by name.
+// The words that open a line, each told by a pattern over its bytes that names what follows.
 ghost use lib.Chars.{codes};
 ghost use mathlib.Core.Path.{_≡_};
 ghost use Rattle.std.specs.Orderings.{Decides};

@@ -63,7 +63,9 @@ pub fn carry_rules(
     listing: &Listing,
     book: &mut Rulebook<Mark, Cut>,
 ) -> Result<(), Stop> {
-    let mut from = listing.bodies.saturating_add(listing.contents.start as usize);
+    let mut from = listing
+        .bodies
+        .saturating_add(listing.contents.start as usize);
     for i in 0..listing.contents.count {
         let to = from.saturating_add(listing.contents.rules[i] as usize);
         if let Err(refusal) = book.rule() {
@@ -76,11 +78,7 @@ pub fn carry_rules(
 }
 
 // One line of the start.
-fn carry_stroke(
-    line: Line,
-    marks: &mut Sheet<Mark>,
-    cuts: &mut Sheet<Cut>,
-) -> Result<(), Refusal> {
+fn carry_stroke(line: Line, marks: &mut Sheet<Mark>, cuts: &mut Sheet<Cut>) -> Result<(), Refusal> {
     match read_stroke(ended(line)?)? {
         Stroke::Mark(e) => marks.add(e),
         Stroke::Cut(e) => cuts.add(e),
@@ -112,7 +110,9 @@ fn carry_step(line: Line, book: &Rulebook<Mark, Cut>) -> Result<(), Refusal> {
         StepLine::Pick(pick) => match book.find(pick.rule) {
             None => Err(Refusal::NoSuchRule),
             Some(rule) => {
-                if rule.left.marks.from >= rule.left.marks.to && rule.left.cuts.from >= rule.left.cuts.to {
+                if rule.left.marks.from >= rule.left.marks.to
+                    && rule.left.cuts.from >= rule.left.cuts.to
+                {
                     Err(Refusal::EmptyLeft)
                 } else {
                     Ok(())
@@ -123,11 +123,7 @@ fn carry_step(line: Line, book: &Rulebook<Mark, Cut>) -> Result<(), Refusal> {
 }
 
 // The steps, up to the first pick that would have to be carried out.
-pub fn carry_steps(
-    file: &[u8],
-    listing: &Listing,
-    book: &Rulebook<Mark, Cut>,
-) -> Result<(), Stop> {
+pub fn carry_steps(file: &[u8], listing: &Listing, book: &Rulebook<Mark, Cut>) -> Result<(), Stop> {
     let to = file.len();
     let from = to.saturating_sub(listing.contents.steps as usize);
     let mut reader = Reader::part(file, from, to);

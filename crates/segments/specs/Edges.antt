@@ -27,7 +27,7 @@ line a = (a .dx, a .dy, a .dx *ℤ a .y -ℤ a .dy *ℤ a .x)
 abbrev pub line-order : ℤ × ℤ × ℤ → ℤ × ℤ × ℤ → Ordering
 line-order a b = thenBy (ordering (a .0) (b .0)) (thenBy (ordering (a .1) (b .1)) (ordering (a .2) (b .2)))
 
--- the position of an edge on its line: x divided by dx and rounded down, or y when dx = 0
+-- the position of an edge on its line: the quotient of x by dx, rounded down, and on an upright line y
 abbrev pub position : ℤ → ℤ → ℤ → ℤ
 position x y dx = cond (ltZ (pos 0) dx) (divEuclid x dx) y
 

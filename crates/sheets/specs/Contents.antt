@@ -35,7 +35,7 @@ module _ {E A C : Type 0} (m : KindModel E A C) where
     pub covers : Sound s → Same (covered t) set
     pub room : room t ≡ room s
 
-  -- s stayed as it was: every slot is taken, and the list of the set is longer than there are slots
+  -- s stayed as it was: the list of the set is longer than there are slots
   pub record Refused (set : A → Bool) (s t : Sheet E) (why : Refusal) : Type 0 where
     pub number : number why ≡ 19
     pub same : t ≡ s

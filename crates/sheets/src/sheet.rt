@@ -38,7 +38,7 @@ pub struct Sheet<'a, K> {
 }
 
 impl<'a, K: Kind> Sheet<'a, K> {
-    // An empty sheet over the slots, of which there may be 4096.
+    // An empty sheet over the slots, of which there may be up to 4096.
     pub fn new(slots: &'a mut [K]) -> Result<Sheet<'a, K>, Refusal>
         ensures { λ r. ⌜ Cases r (λ s. Sound model s × (items s ≡ []) × (RoomOf s ≡ length (now (slots .entry))) × (name (s .slots) ≡ name (slots .entry))) (λ e. (Number e ≡ 10) × (4096 < length (now (slots .entry)))) ⌝ }
     {

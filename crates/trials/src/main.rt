@@ -6,6 +6,7 @@ ghost use Rattle.std.specs.Options.{Cases};
 use commands::Cut;
 use commands::Mark;
 use elements::ink::Ink;
+use elements::ink::InkClone;
 use elements::point::Point;
 use lattice::refusal::Refusal;
 use output::refusals::refusal_line;
@@ -18,11 +19,13 @@ use std::alloc::Global;
 use std::io;
 use std::io::Read;
 use std::io::Write;
-use elements::ink::InkClone;
 
 const SLOTS: usize = 1024;
+
 const OUTPUT: usize = 65536;
+
 const READ: u64 = 4000000;
+
 const CASE: &[u8; 5] = b"case ";
 
 // One case, and where it ends.
@@ -67,7 +70,11 @@ fn next_case<'a>(text: &'a [u8], at: usize) -> Option<Case<'a>>
     let last = line_end(text, to);
     let file = &text[from..to];
     let name = &text[to..last];
-    Some(Case { file, name, end: last.saturating_add(1) })
+    Some(Case {
+        file,
+        name,
+        end: last.saturating_add(1),
+    })
 }
 
 // Something to fill the tables of marks with.

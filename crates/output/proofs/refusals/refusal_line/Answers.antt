@@ -36,6 +36,6 @@ returns c =
     let e5 = c .put .ensures .end in
     let fits : c .put .result ≤ length (c .args .out .now) = omega (arith, e1, e2, e3, e4, e5, c .natural-field-size .ensures .value, c .natural-field-size-2 .ensures .value) in
     let w = wrote-three 0 (c .put-at .result) (c .write-natural-field-at .result) (c .put-at-2 .result) (c .write-natural-field-at-2 .result) (c .put .result) (codes "refused") (32 ∷ decimal n) (codes " line") (32 ∷ decimal l) (10 ∷ [])
-        (c .args .out .now) (c .put-at .last .out) (c .write-natural-field-at .last .out) (c .put-at-2 .last .out) (c .write-natural-field-at-2 .last .out) (c .put .last .out) fits
-        e1 (c .put-at .ensures .written) e2 (c .write-natural-field-at .ensures .written) e3 (c .put-at-2 .ensures .written) e4 (c .write-natural-field-at-2 .ensures .written) e5 (c .put .ensures .written) in
+    (c .args .out .now) (c .put-at .last .out) (c .write-natural-field-at .last .out) (c .put-at-2 .last .out) (c .write-natural-field-at-2 .last .out) (c .put .last .out) fits
+    e1 (c .put-at .ensures .written) e2 (c .write-natural-field-at .ensures .written) e3 (c .put-at-2 .ensures .written) e4 (c .write-natural-field-at-2 .ensures .written) e5 (c .put .ensures .written) in
     (omega (arith, e, s, e1, e2, e3, e4, e5), fits, w ∙ ap (λ (k : ℕ). text k l ++ drop (c .put .result) (c .args .out .now)) (c .number-number .ensures))

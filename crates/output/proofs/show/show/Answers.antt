@@ -19,6 +19,8 @@ returns c =
     let first = c .write-lines-at .ensures .end in
     let second = c .write-lines .ensures .end in
     let room = c .in-Some .ensures tt in
-    let rest = c .in-Some-room-after .ensures tt in
-    (omega (arith, l, first, second), omega (arith, first, second, room, rest),
-     wrote-then 0 (c .write-lines-at .result) (c .write-lines .result) (lines mark-line (c .args .marks .now)) (lines cut-line (c .args .cuts .now)) (c .args .out .now) (c .write-lines-at .last .out) (c .write-lines .last .out) first (omega (arith, second)) (omega (arith, first, second, room, rest)) (c .write-lines-at .ensures .written) (c .write-lines .ensures .written))
+    let rest = c .in-Some-room-after .ensures tt in (
+      omega (arith, l, first, second),
+      omega (arith, first, second, room, rest),
+      wrote-then 0 (c .write-lines-at .result) (c .write-lines .result) (lines mark-line (c .args .marks .now)) (lines cut-line (c .args .cuts .now)) (c .args .out .now) (c .write-lines-at .last .out) (c .write-lines .last .out) first (omega (arith, second)) (omega (arith, first, second, room, rest)) (c .write-lines-at .ensures .written) (c .write-lines .ensures .written),
+    )
