@@ -3,3 +3,4 @@ pub mod Chaining
 pub mod Sides
 pub mod Books
 pub mod Ruling
+pub mod Numbering

@@ -4,8 +4,11 @@ use mathlib.Core.Bool.{true}
 use mathlib.Core.List.{List, [], _∷_, _++_, map}
 use Prim.Native.Nat.{ℕ, _+_, _≤_, _<_}
 use lib.ListN.{take, length}
+use Rattle.std.specs.declared.option.Option.{Option}
+use Rattle.std.specs.declared.option.Option.the-variants.{None, Some}
 use Rattle.kinds.specs.Model.{KindModel}
 use Rattle.sheets.specs.Cover.{canonical}
+use Rattle.grammar.specs.Numbers.{nth}
 use Rattle.grammar.specs.Rules.{Side, Rule}
 use Rattle.rulebook.specs.Tables.{stretch-of, Tidy}
 use Rattle.rulebook.specs.declared.records.RuleRecord.{RuleRecord}
@@ -28,6 +31,18 @@ kept b = take (b .count) (b .records)
 
 abbrev pub rules-of : {EM EC : Type 0} → Rulebook EM EC → List (Rule EM EC)
 rules-of b = map (rule-of b) (kept b)
+
+-- of the first so many of a list none has number n, or x has
+abbrev pub NoNumber : {X : Type 0} → List X → ℕ → ℕ → Type 0
+NoNumber xs count n = nth (take count xs) n ≡ None
+
+abbrev pub HasNumber : {X : Type 0} → List X → ℕ → ℕ → X → Type 0
+HasNumber xs count n x = nth (take count xs) n ≡ Some x
+
+-- what is found under number r: no rule has it, or the record's rule has
+abbrev pub Finds : {EM EC : Type 0} → Rulebook EM EC → ℕ → Option RuleRecord → Type 0
+Finds b r None = nth (rules-of b) r ≡ None
+Finds b r (Some x) = nth (rules-of b) r ≡ Some (rule-of b x)
 
 -- a rule with empty sides
 abbrev pub bare : {EM EC : Type 0} → Rule EM EC

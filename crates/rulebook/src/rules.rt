@@ -3,10 +3,12 @@ ghost use mathlib.Core.List.{[]};
 ghost use mathlib.Core.Path.{_≡_};
 ghost use Prim.Native.Nat.{_≤_};
 ghost use lib.ListN.{length};
+ghost use Rattle.std.specs.Options.{Cases as BySome};
 ghost use Rattle.std.specs.Results.{Cases};
 ghost use Rattle.lattice.specs.Refusals.{number as Number};
 ghost use Rattle.rulebook.specs.Growing.{latest-record as LatestRecord, Closed, SideGrew, TableStayed, Added, NotAdded, Grown, NotGrown, left-side, right-side, with-left, with-right};
-ghost use Rattle.rulebook.specs.Rulebooks.{rules-of as RulesOf, KeptSide, Kept};
+ghost use Rattle.grammar.specs.Numbers.{ordinal as Ordinal};
+ghost use Rattle.rulebook.specs.Rulebooks.{rules-of as RulesOf, rule-of as RuleOf, KeptSide, Kept, Finds, NoNumber, HasNumber};
 use crate::records::RuleRecord;
 use crate::records::SideRecord;
 use crate::rulebook::Rulebook;
@@ -130,14 +132,60 @@ impl<'a, M: Kind, C: Kind> Rulebook<'a, M, C> {
     }
 
     // Rule number `r`, counted from 1.
-    pub fn find(&self, r: i32) -> Option<RuleRecord> {
-        if r < 1 {
-            return None;
-        }
-        let i = r as usize - 1;
-        if i >= self.count || i >= MOST_RULES {
-            return None;
-        }
-        Some(self.records[i])
+    pub fn find(&self, r: i32) -> Option<RuleRecord>
+        ensures { λ x. ⌜ Finds (now (self .entry)) (Ordinal r) x ⌝ }
+    {
+        record_at(&self.records, self.count, counted_from_one(r))
     }
+
+    // The marks of a rule's left side.
+    pub fn left_marks(&self, found: RuleRecord) -> &[M]
+        ensures { λ r. ⌜ now r ≡ RuleOf (now (self .entry)) found .left .marks ⌝ }
+    {
+        self.left.marks.part(found.left.marks)
+    }
+
+    // The cuts of a rule's left side.
+    pub fn left_cuts(&self, found: RuleRecord) -> &[C]
+        ensures { λ r. ⌜ now r ≡ RuleOf (now (self .entry)) found .left .cuts ⌝ }
+    {
+        self.left.cuts.part(found.left.cuts)
+    }
+
+    // The marks of a rule's right side.
+    pub fn right_marks(&self, found: RuleRecord) -> &[M]
+        ensures { λ r. ⌜ now r ≡ RuleOf (now (self .entry)) found .right .marks ⌝ }
+    {
+        self.right.marks.part(found.right.marks)
+    }
+
+    // The cuts of a rule's right side.
+    pub fn right_cuts(&self, found: RuleRecord) -> &[C]
+        ensures { λ r. ⌜ now r ≡ RuleOf (now (self .entry)) found .right .cuts ⌝ }
+    {
+        self.right.cuts.part(found.right.cuts)
+    }
+}
+
+// A number as it is called for: below 1 it is 0, which no rule has.
+fn counted_from_one(r: i32) -> usize
+    ensures { λ n. ⌜ n ≡ Ordinal r ⌝ }
+{
+    if r < 0 { 0 } else { r as usize }
+}
+
+// Number `n` of the first `count` records, if there is one.
+fn record_at(all: &[RuleRecord], count: usize, n: usize) -> Option<RuleRecord>
+    ensures { λ x. ⌜ BySome x (NoNumber (now (all .entry)) count n) (λ y. HasNumber (now (all .entry)) count n y) ⌝ }
+{
+    if n == 0 {
+        return None;
+    }
+    if n > count {
+        return None;
+    }
+    if n > all.len() {
+        return None;
+    }
+    Some(all[n - 1])
 }

@@ -1,0 +1,5 @@
+pub mod Changes
+pub mod View
+pub mod Steps
+pub mod Asking
+pub mod PlacesFollow
