@@ -1,4 +1,4 @@
-// Rules as they are kept: each remembers which stretch of the tables belongs to its sides.
+// Rules as they are kept: a record has, for each side and kind, where in the table its elements lie.
 use crate::table::Stretch;
 
 #[derive(Clone, Copy)]
