@@ -45,9 +45,10 @@ def own_crates():
 def of_library(text, ours):
     """The names that a text takes from a library, and those that it brings in by `as`."""
     found = set()
-    for m in re.finditer(r"use (Rattle\.(\w+)[^\s{;]*)\.\{([^}]*)\}", text):
-        if m.group(2) not in ours:
-            for item in m.group(3).split(","):
+    for m in re.finditer(r"use ([^\s{;]+)\.\{([^}]*)\}", text):
+        steps = m.group(1).split(".")
+        if steps[0] != "Rattle" or steps[1] not in ours:
+            for item in m.group(2).split(","):
                 found.update(item.split(" as "))
     return {x.strip() for x in found}
 

@@ -1,6 +1,6 @@
 -- Entries that go on the contents.
 use Rattle.std.proofs.Common.{◌≡◌, ℕ, ◌+◌, ◌<◌, List, [], ◌∷◌, ◌++◌, map, length, take, set, sym, refl, ap, ◌∙◌, subst, append_assoc}
-use mathlib.Core.List.{map_append}
+use mathlib.Core.List.{map-append}
 use Rattle.std.proofs.lemmas.List.{take_more_set}
 use Rattle.notation.specs.Contents.{entries_at, Counts, may_follow}
 use Rattle.notation.specs.declared.contents.Entry.{Entry}
@@ -18,4 +18,4 @@ pub rule_last : (s : Stage) (start steps : ℕ) (rules : List ℕ) (n k : ℕ) (
 rule_last s start steps rules n k e h g l =
     subst (λ (t : Stage). entries_at t start (take (n + 1) (set rules n k)) steps ≡ entries_at t start (take n rules) steps ++ (e ∷ [])) (sym h)
     (subst (λ (f : Entry). entries_at stage.Rules start (take (n + 1) (set rules n k)) steps ≡ entries_at stage.Rules start (take n rules) steps ++ (f ∷ [])) (sym g)
-    (ap (λ (es : List ℕ). Start start ∷ map Rule es) (take_more_set rules n k l) ∙ ap (λ (es : List Entry). Start start ∷ es) (map_append Rule (take n rules) (k ∷ []))))
+    (ap (λ (es : List ℕ). Start start ∷ map Rule es) (take_more_set rules n k l) ∙ ap (λ (es : List Entry). Start start ∷ es) (map-append Rule (take n rules) (k ∷ []))))

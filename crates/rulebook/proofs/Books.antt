@@ -1,6 +1,6 @@
 -- Rules of a rulebook, when one is added and when a side of the latest grows.
 use Rattle.std.proofs.Common.{◌≡◌, ℕ, ◌+◌, ◌-◌, ◌<◌, ◌≤◌, ◌⊎◌, List, [], ◌∷◌, ◌++◌, map, length, get_or, take, drop, set, sum_by, sym, refl, ap, ◌∙◌, subst, inl, inr, arith}
-use mathlib.Core.List.{map_append}
+use mathlib.Core.List.{map-append}
 use Rattle.std.proofs.lemmas.List.{take_more, take_more_set}
 use Rattle.std.proofs.lemmas.List.Sums.{sum_by-cons}
 use Rattle.lattice.specs.Refusals.{number}
@@ -42,15 +42,15 @@ module _ {EM AM CM EC Ac CC : Type 0} (M : KindModel EM AM CM) (C : KindModel EC
       λ i. build (h i) (side_of w (that r)) ∷ j i
 
   pub parted_side : (rs : List RuleRecord) (x : RuleRecord) (t : SideTables EM EC) → KeptSide M C (map this (rs ++ (x ∷ []))) t → KeptSide M C (map this rs ++ (this x ∷ [])) t
-  parted_side rs x t k = subst (λ (ss : List SideRecord). KeptSide M C ss t) (map_append this rs (x ∷ [])) k
+  parted_side rs x t k = subst (λ (ss : List SideRecord). KeptSide M C ss t) (map-append this rs (x ∷ [])) k
 
   pub side_again : (rs : List RuleRecord) (y : RuleRecord) (s : SideRecord) (u : SideTables EM EC) → this y ≡ s → KeptSide M C (map this rs ++ (s ∷ [])) u → KeptSide M C (map this (rs ++ (y ∷ []))) u
   side_again rs y s u e k =
-      subst (λ (ss : List SideRecord). KeptSide M C ss u) (ap (λ (r : SideRecord). map this rs ++ (r ∷ [])) (sym e) ∙ sym (map_append this rs (y ∷ []))) k
+      subst (λ (ss : List SideRecord). KeptSide M C ss u) (ap (λ (r : SideRecord). map this rs ++ (r ∷ [])) (sym e) ∙ sym (map-append this rs (y ∷ []))) k
 
   -- the rules, with the latest apart
   pub rules_parted : (t w : SideTables EM EC) (rs : List RuleRecord) (x : RuleRecord) → map (rule_at t w) (rs ++ (x ∷ [])) ≡ map (rule_at t w) rs ++ (rule_at t w x ∷ [])
-  rules_parted t w rs x = map_append (rule_at t w) rs (x ∷ [])
+  rules_parted t w rs x = map-append (rule_at t w) rs (x ∷ [])
 
   -- how many elements the earlier rules have on that side
   module _ (t w : SideTables EM EC) (read : Rule EM EC → Side EM EC) (reads : (a b : Side EM EC) → read (build a b) ≡ a) where

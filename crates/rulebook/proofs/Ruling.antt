@@ -1,6 +1,6 @@
 -- The calls on a rulebook, from what they do to its records and tables.
 use Rattle.std.proofs.Common.{◌≡◌, ℕ, ◌+◌, ◌<◌, ◌≤◌, ◌⊎◌, List, [], ◌∷◌, ◌++◌, map, length, get_or, take, set, sym, refl, ap, ◌∙◌, subst, inl, inr, arith}
-use mathlib.Core.List.{map_append}
+use mathlib.Core.List.{map-append}
 use Rattle.std.proofs.lemmas.List.{length-take, length-map, length-set}
 use Rattle.lattice.specs.declared.refusal.Refusal.{Refusal}
 use Rattle.kinds.specs.Model.{KindModel}
@@ -113,13 +113,13 @@ module _ {EM AM CM EC Ac CC : Type 0} (M : KindModel EM AM CM) (C : KindModel EC
     -- the rules before the latest, and with it
     rules_were : (b c : Rulebook EM EC) (i : ℕ) (x y : RuleRecord) → Rewritten b c i x y → rules_of b ≡ map (rule_of b) (take i b.records) ++ (H.build (side_of (H.mine b) (H.this x)) (side_of (H.other b) (H.that x)) ∷ [])
     rules_were b c i x y h =
-        ap (map (rule_of b)) (kept_was b c i x y h) ∙ map_append (rule_of b) (take i b.records) (x ∷ []) ∙
+        ap (map (rule_of b)) (kept_was b c i x y h) ∙ map-append (rule_of b) (take i b.records) (x ∷ []) ∙
         ap (λ (f : RuleRecord → Rule EM EC). map (rule_of b) (take i b.records) ++ (f x ∷ [])) (H.rules b)
 
     rules_are : (stroke : Stroke EM EC) (b c : Rulebook EM EC) (i : ℕ) (x y : RuleRecord) → Rewritten b c i x y → Result stroke b c i x → rules_of c ≡ map (rule_of b) (take i b.records) ++ (H.build (side_of (H.mine c) (latest_record (H.mine c))) (side_of (H.other b) (H.that x)) ∷ [])
     rules_are stroke b c i x y h q =
         let rs = take i b.records in
-        ap (map (rule_of c)) (kept_is b c i x y h) ∙ map_append (rule_of c) rs (y ∷ []) ∙
+        ap (map (rule_of c)) (kept_is b c i x y h) ∙ map-append (rule_of c) rs (y ∷ []) ∙
         ap (λ (f : RuleRecord → Rule EM EC). map f rs ++ (f y ∷ [])) (H.rules c) ∙
         ap (λ (v : SideTables EM EC). map (seen (H.mine c) v) rs ++ (seen (H.mine c) v y ∷ [])) h.other ∙
         ap (λ (es : List (Rule EM EC)). es ++ (seen (H.mine c) (H.other b) y ∷ [])) (same_rules M C H.this H.that H.build (H.mine b) (H.mine c) (H.other b) rs q.before ∙ sym (ap (λ (f : RuleRecord → Rule EM EC). map f rs) (H.rules b))) ∙
@@ -156,7 +156,7 @@ module _ {EM AM CM EC Ac CC : Type 0} (M : KindModel EM AM CM) (C : KindModel EC
           record {
             earlier = map (seen (H.mine b) (H.other b)) rs;
             latest = seen (H.mine b) (H.other b) x;
-            before = ap (λ (f : RuleRecord → Rule EM EC). map f (kept b)) (H.rules b) ∙ ap (map (seen (H.mine b) (H.other b))) was ∙ map_append (seen (H.mine b) (H.other b)) rs (x ∷ []);
+            before = ap (λ (f : RuleRecord → Rule EM EC). map f (kept b)) (H.rules b) ∙ ap (map (seen (H.mine b) (H.other b))) was ∙ map-append (seen (H.mine b) (H.other b)) rs (x ∷ []);
             overflows = o.1;
           },
         )
@@ -204,7 +204,7 @@ module _ {EM AM CM EC Ac CC : Type 0} (M : KindModel EM AM CM) (C : KindModel EC
         let le = ap (side_of c.left) h.left ∙ l.empty in
         let re = ap (side_of c.right) h.right ∙ r.empty in
         let last : rule_of c y ≡ bare = λ i. record { left = le i; right = re i } in
-        ap (map (rule_of c)) (kept_more b c y h) ∙ map_append (rule_of c) (kept b) (y ∷ []) ∙
+        ap (map (rule_of c)) (kept_more b c y h) ∙ map-append (rule_of c) (kept b) (y ∷ []) ∙
         ap (λ (es : List (Rule EM EC)). es ++ (rule_of c y ∷ []))
         (same_rules M C left_half.this left_half.that left_half.build b.left c.left c.right (kept b) l.before ∙
         same_rules M C right_half.this right_half.that right_half.build b.right c.right b.left (kept b) r.before) ∙

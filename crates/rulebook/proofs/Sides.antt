@@ -1,6 +1,6 @@
 -- Sides of rules, when the latest is closed and when it grows.
 use Rattle.std.proofs.Common.{◌≡◌, ℕ, ◌-◌, List, [], ◌∷◌, ◌++◌, map, take, drop, sym, refl, ap, ◌∙◌, subst, arith, Bor}
-use mathlib.Core.List.{map_append}
+use mathlib.Core.List.{map-append}
 use Rattle.std.specs.List.{AllByRecursion as All}
 use Rattle.kinds.specs.Model.{KindModel, covers}
 use Rattle.sheets.specs.Cover.{union, cover}
@@ -45,15 +45,15 @@ all_is xs ys ss e = subst (λ zs. All (λ r. stretch_of xs r ≡ stretch_of zs r
 module _ {EM AM CM EC Ac CC : Type 0} (M : KindModel EM AM CM) (C : KindModel EC Ac CC) where
   -- the two chains of the sides before the latest, and of the latest
   pub parted_marks : (ss : List SideRecord) (s : SideRecord) (t : SideTables EM EC) → KeptSide M C (ss ++ (s ∷ [])) t → KeptTable M (map mark_stretch ss ++ (s.marks ∷ [])) t.marks
-  parted_marks ss s t k = subst (λ rs. KeptTable M rs t.marks) (map_append mark_stretch ss (s ∷ [])) k.marks
+  parted_marks ss s t k = subst (λ rs. KeptTable M rs t.marks) (map-append mark_stretch ss (s ∷ [])) k.marks
 
   pub parted_cuts : (ss : List SideRecord) (s : SideRecord) (t : SideTables EM EC) → KeptSide M C (ss ++ (s ∷ [])) t → KeptTable C (map cut_stretch ss ++ (s.cuts ∷ [])) t.cuts
-  parted_cuts ss s t k = subst (λ rs. KeptTable C rs t.cuts) (map_append cut_stretch ss (s ∷ [])) k.cuts
+  parted_cuts ss s t k = subst (λ rs. KeptTable C rs t.cuts) (map-append cut_stretch ss (s ∷ [])) k.cuts
 
   joined_side : (ss : List SideRecord) (s : SideRecord) (t : SideTables EM EC) → KeptTable M (map mark_stretch ss ++ (s.marks ∷ [])) t.marks → KeptTable C (map cut_stretch ss ++ (s.cuts ∷ [])) t.cuts → KeptSide M C (ss ++ (s ∷ [])) t
   joined_side ss s t p q = record {
-    marks = subst (λ rs. KeptTable M rs t.marks) (sym (map_append mark_stretch ss (s ∷ []))) p;
-    cuts = subst (λ rs. KeptTable C rs t.cuts) (sym (map_append cut_stretch ss (s ∷ []))) q;
+    marks = subst (λ rs. KeptTable M rs t.marks) (sym (map-append mark_stretch ss (s ∷ []))) p;
+    cuts = subst (λ rs. KeptTable C rs t.cuts) (sym (map-append cut_stretch ss (s ∷ []))) q;
   }
 
   -- what is known when the latest side grew

@@ -1,7 +1,7 @@
 -- The segment between two ends.
 use Rattle.std.proofs.Common.{◌≡◌, ℕ, zero, suc, ◌*◌, ◌/◌, ◌<◌, ◌≤◌, Bool, true, false, ◌&&◌, ◌⊎◌, ℤ, pos, negsuc, ◌+ℤ◌, ◌-ℤ◌, ◌*ℤ◌, neg_ℤ, nat_abs, ◌≤ℤ◌, ◌<ℤ◌, sym, refl, ap, ◌∙◌, subst, inl, inr, ⊎_elim, div-le_self, arith}
 use Prim.Native.Nat.{◌∣◌}
-use native.Mathlib.Nat.{mul_div_cancel', le_of_dvd, pos_of_dvd_of_pos}
+use native.Mathlib.Nat.{mul-div_cancel', le_of_dvd, pos_of_dvd_of_pos}
 use lib.IntN.{*ℤ_comm}
 use lib.Signed.{quot_z, lt_z, le_z}
 use Rattle.std.proofs.lemmas.Int.{ints, by_lt_z}
@@ -19,8 +19,8 @@ use Rattle.segments.specs.DirectionsLemmas.{forward_cases, direction_from, other
 use Rattle.segments.specs.Fitting.{Passes}
 
 pub quot_exact : (z : ℤ) (n : ℕ) → n ∣ nat_abs z → pos n *ℤ quot_z z (pos n) ≡ z
-quot_exact (pos a) n h = ap pos (mul_div_cancel' n h)
-quot_exact (negsuc a) n h = times_neg (pos n) (pos (suc a / n)) ∙ ap (λ (k : ℕ). neg_ℤ (pos k)) (mul_div_cancel' n h)
+quot_exact (pos a) n h = ap pos (mul-div_cancel' n h)
+quot_exact (negsuc a) n h = times_neg (pos n) (pos (suc a / n)) ∙ ap (λ (k : ℕ). neg_ℤ (pos k)) (mul-div_cancel' n h)
 
 pub quot_size : (z : ℤ) (n : ℕ) → nat_abs (quot_z z (pos n)) ≤ nat_abs z
 quot_size (pos a) n = div-le_self a n
