@@ -1,4 +1,6 @@
 // What a grammar file can ask for, line by line.
+#![tactic(auto)]
+
 use elements::ink::Ink;
 use elements::point::Point;
 use rulebook::stroke::Stroke;

@@ -1,4 +1,6 @@
 // Drawings: rules are applied at places, and the steps can be taken back.
+#![tactic(auto)]
+
 pub mod asking;
 pub mod comparing;
 pub mod drawing;

@@ -1,4 +1,6 @@
 // Worked cases of points, segments and ink.
+#![tactic(auto)]
+
 #[cfg(test)]
 mod tests;
 pub mod worked;

@@ -1,5 +1,7 @@
 // What a drawing means: covered sets, the places of rules and their numbers, the record, refusals and histories.
 // The definitions stand in specs/; each function here carries a statement about them, for any two kinds.
+#![tactic(auto)]
+
 ghost use Rattle.grammar.specs.Again.{StepsCanBeMadeAgain};
 ghost use Rattle.grammar.specs.Answered.{Determined, EveryCallHasOneAnswer};
 ghost use Rattle.grammar.specs.Meaning.{Meaning};

@@ -1,4 +1,6 @@
 // Histories of real calls on drawings of inked points and inked segments. Each contract states the whole outcome.
+#![tactic(auto)]
+
 ghost use Rattle.std.specs.Prelude.{◌≡◌, [], ◌∷◌};
 ghost use Rattle.cases.specs.Cases.{two as Two, move_on as MoveOn, step_right as StepRight};
 ghost use Rattle.cases.specs.Figures.{marks as MarkModel, cuts as CutModel, setting as SettingOf};

@@ -1,4 +1,6 @@
 // Whole numbers: the greatest common divisor.
+#![tactic(auto)]
+
 ghost use Rattle.std.specs.Prelude.{◌≡◌, ℕ};
 ghost use Rattle.std.specs.Int.{◌∣◌};
 ghost use Rattle.numbers.specs.Gcd.{gcd as GreatestCommonDivisor};

@@ -1,4 +1,6 @@
 // Drawings and refusals as text in a buffer that the caller provides.
+#![tactic(auto)]
+
 mod commands;
 mod lines;
 mod numbers;

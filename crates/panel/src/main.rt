@@ -1,4 +1,6 @@
 // The program: a grammar file on standard input, the drawing that it leaves on standard output.
+#![tactic(auto)]
+
 use commands::{Cut, Mark};
 use elements::ink::Ink;
 use elements::point::Point;

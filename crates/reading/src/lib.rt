@@ -1,4 +1,6 @@
 // Reading text: numbers, words, fields and lines, all of them parts of the bytes that are read.
+#![tactic(auto)]
+
 pub mod fields;
 pub mod line;
 pub mod lines;

@@ -1,3 +1,5 @@
 // Line segments between lattice points.
+#![tactic(auto)]
+
 mod arithmetic;
 pub mod segment;

@@ -1,5 +1,7 @@
 // How the time of a question and of a draw grows with the number of cuts on a sheet. What is printed is the same on every
 // machine: counts, and whether the times grow as they should. The times themselves are not printed.
+#![tactic(auto)]
+
 use anyhow::anyhow;
 use lattice::refusal::Refusal;
 use segments::segment::Segment;

@@ -1,4 +1,6 @@
 // What sheets do with cuts, case by case.
+#![tactic(auto)]
+
 use lattice::refusal::Refusal;
 use segments::segment::Segment;
 use sheets::sheet::Sheet;

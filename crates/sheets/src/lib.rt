@@ -1,4 +1,5 @@
 // Sheets of elements of any one kind: sum, difference, part and count, over the one list of maximal elements.
+#![tactic(auto)]
 
 mod finding;
 mod pieces;

@@ -1,5 +1,7 @@
 // A table of grammar files on standard input, each carried out, and what each prints on standard output. A case is a line
 // `case N`, a file of N bytes, and a line with the name of the case. tools/make_trials.py writes both ends.
+#![tactic(auto)]
+
 ghost use Rattle.std.specs.Prelude.{◌<◌, ◌≤◌, length, IfSome};
 
 use commands::{Cut, Mark};
