@@ -11,8 +11,8 @@ returns c =
     let ff : SFits w64 c.args.from = search rules in
     let fr : SFits w64 c.from-to.result = search rules in
     let e : c.from-to.result ≡ c.args.to = simp to_z-of_z at c.from-to.ensures in
-    let p : ranged c.args.from ≡ true = sym (simp to_z-of_z at c.in-field.ensures) ∙ c.if-not-in-field.false in
-    let q : ranged c.args.to ≡ true = ap ranged (sym e) ∙ sym (simp to_z-of_z at c.in-field-2.ensures) ∙ c.if-not-in-field-2.false in
+    let p : ranged c.args.from ≡ true = sym (simp to_z-of_z at c.in_field.ensures) ∙ c.if-not-in_field.false in
+    let q : ranged c.args.to ≡ true = ap ranged (sym e) ∙ sym (simp to_z-of_z at c.in_field-2.ensures) ∙ c.if-not-in_field-2.false in
     let a = ranged_parts c.args.from p in
     let b = ranged_parts c.args.to q in
     (and_from (ranged c.args.from) (ranged c.args.to) p q, omega (arith, ints))

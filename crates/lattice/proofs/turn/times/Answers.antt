@@ -6,8 +6,8 @@ use Rattle.lattice.proofs.turn.times.Goals as goal
 same : (c : goal.After-from) → c.from.result ≡ c.args.z
 same c = c.from.ensures ∙ to_z-of_z w32 c.args.z c.ranges.z
 
-pub overflow-mul-result : goal.overflow-mul-result
-overflow-mul-result c =
+pub overflow_mul-result : goal.overflow_mul-result
+overflow_mul-result c =
     let e = same c in
     let fb : SFits w64 c.args.by = search rules in
     let fz : SFits w64 c.from.result = search rules in

@@ -2,8 +2,8 @@ use Rattle.std.proofs.Common.{◌≡◌, ℤ, ◌+ℤ◌, ◌*ℤ◌, refl, ap, 
 use Rattle.std.proofs.lemmas.Int.{ints, to_z-of_z}
 use Rattle.lattice.proofs.turn.weighed.Goals as goal
 
-pub overflow-add-result : goal.overflow-add-result
-overflow-add-result c = let p = c.times.ensures in let q = c.times-2.ensures in omega (arith, ints)
+pub overflow_add-result : goal.overflow_add-result
+overflow_add-result c = let p = c.times.ensures in let q = c.times-2.ensures in omega (arith, ints)
 
 pub returns : goal.returns
 returns c =

@@ -7,8 +7,8 @@ use Rattle.lattice.proofs.placement.Placement.moved.Goals as goal
 sizes : (x y : ℤ) → SFits w32 x → SFits w32 y → (nat_abs x ≤ 2147483648) × (nat_abs y ≤ 2147483648)
 sizes x y f g = (omega (arith, ints), omega (arith, ints))
 
-pub overflow-add-result : goal.overflow-add-result
-overflow-add-result c =
+pub overflow_add-result : goal.overflow_add-result
+overflow_add-result c =
     let fx : SFits w32 c.args.x = search rules in
     let fy : SFits w32 c.args.y = search rules in
     let fa : SFits w32 c.args.self.across = search rules in
@@ -19,8 +19,8 @@ overflow-add-result c =
     let s = shifting_parts c.args.self.across c.args.self.sideways in
     omega (arith, ints)
 
-pub overflow-add-result-2 : goal.overflow-add-result-2
-overflow-add-result-2 c =
+pub overflow_add-result-2 : goal.overflow_add-result-2
+overflow_add-result-2 c =
     let fx : SFits w32 c.args.x = search rules in
     let fy : SFits w32 c.args.y = search rules in
     let fa : SFits w32 c.args.self.up = search rules in
