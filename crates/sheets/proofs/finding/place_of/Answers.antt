@@ -22,11 +22,11 @@ none P xs = subst (All P) (sym (drop_all (length xs) xs (omega arith))) tt
 pub loop-low-init : goal.loop-low-init
 loop-low-init g c = (omega arith, omega arith, λ h. tt, λ h. none _ c.args.xs.now)
 
-pub loop-low-preserved-then-is-ahead : goal.loop-low-preserved-then-is-ahead
-loop-low-preserved-then-is-ahead g c = (omega arith, c.loop-low.invariant.1, up g.K.Kind.model g.met.K.Kind.rules c.args.xs.now _ c.index-xs-mid.result _ (omega arith) c.index-xs-mid.is c.if-is-ahead.ensures, c.loop-low.invariant.3)
+pub loop-low-preserved-then-is_ahead : goal.loop-low-preserved-then-is_ahead
+loop-low-preserved-then-is_ahead g c = (omega arith, c.loop-low.invariant.1, up g.K.Kind.model g.met.K.Kind.rules c.args.xs.now _ c.index-xs-mid.result _ (omega arith) c.index-xs-mid.is c.if-is_ahead.ensures, c.loop-low.invariant.3)
 
 pub loop-low-preserved : goal.loop-low-preserved
-loop-low-preserved g c = (omega arith, omega arith, c.loop-low.invariant.2, down g.K.Kind.model g.met.K.Kind.rules c.args.xs.now _ c.index-xs-mid.result _ (omega arith) c.index-xs-mid.is c.if-is-ahead.ensures)
+loop-low-preserved g c = (omega arith, omega arith, c.loop-low.invariant.2, down g.K.Kind.model g.met.K.Kind.rules c.args.xs.now _ c.index-xs-mid.result _ (omega arith) c.index-xs-mid.is c.if-is_ahead.ensures)
 
 closed : {E : Type 0} (test : E → Bool) (xs : List E) (l h : ℕ) → h ≡ l → All (λ x. test x ≡ true) (take l xs) → All (λ x. test x ≡ false) (drop h xs) → Parted test xs l
 closed test xs l h e f b = record { front = f; back = subst (λ k. All (λ x. test x ≡ false) (drop k xs)) e b }

@@ -14,7 +14,7 @@ returns-else-start g c =
     let d : Decides (le_z (to_z w32 (of_z w32 c.start.result)) (to_z w32 (of_z w32 c.start-in-Equal.result))) (Contains g.K.Kind.model c.args.x.now c.args.e.now) = search rules in
     part_decides g.K.Kind.model g.met.K.Kind.rules c.args.x.now c.args.e.now _ d
 
-pub returns-in-default : goal.returns-in-default
-returns-in-default g c =
+pub returns-in_default : goal.returns-in_default
+returns-in_default g c =
     let d : Decides false (Contains g.K.Kind.model c.args.x.now c.args.e.now) = search rules in
     part_decides g.K.Kind.model g.met.K.Kind.rules c.args.x.now c.args.e.now _ d

@@ -12,16 +12,16 @@ returns g c =
     let s = c.args.self.now in
     let e = c.args.e in
     let w = c.gather-whole.result.0 in
-    let from = c.place-of-from.result in
+    let from = c.place_of-from.result in
     let to = c.gather-whole.result.1 in
-    let t = c.put-one.new.self in
-    let found : Gathered m r c.elements-xs.result.now e w from to = record { low = c.gather-whole.ensures.low; high = c.gather-whole.ensures.high; parted = c.place-of-from.ensures.parted; whole = c.gather-whole.ensures.whole; ends = c.gather-whole.ensures.ends } in
+    let t = c.put_one.new.self in
+    let found : Gathered m r c.elements-xs.result.now e w from to = record { low = c.gather-whole.ensures.low; high = c.gather-whole.ensures.high; parted = c.place_of-from.ensures.parted; whole = c.gather-whole.ensures.whole; ends = c.gather-whole.ensures.ends } in
     let f : Gathered m r (items s) e w from to = subst (λ l. Gathered m r l e w from to) c.elements-xs.ensures.value found in
     let h = added_change m r s e w from to f in
     let set = union (covered m s) (covers m e) in
     record {
-      cases = settled m r set (w ∷ []) from to s t c.put-one.result h c.put-one.ensures.cases;
-      longer = settled_longer m r set (w ∷ []) from to s t c.put-one.result h c.put-one.ensures.cases;
-      taken = settled_taken m r set (w ∷ []) from to s t c.put-one.result h c.put-one.ensures.cases;
-      lender = c.put-one.ensures.lender;
+      cases = settled m r set (w ∷ []) from to s t c.put_one.result h c.put_one.ensures.cases;
+      longer = settled_longer m r set (w ∷ []) from to s t c.put_one.result h c.put_one.ensures.cases;
+      taken = settled_taken m r set (w ∷ []) from to s t c.put_one.result h c.put_one.ensures.cases;
+      lender = c.put_one.ensures.lender;
     }

@@ -12,7 +12,7 @@ step f xs i sum more next x l is h k n =
     omega arith
 
 pub loop-e-preserved : goal.loop-e-preserved
-loop-e-preserved g c = step (size g.K.Kind.model) c.elements-e-items.result.now c.loop-e.e-index c.loop-e.sum c.extent.result c.saturating-add-sum.result c.e-item.result c.loop-e-test.true c.e-item.is c.loop-e.invariant c.extent.ensures c.saturating-add-sum.ensures
+loop-e-preserved g c = step (size g.K.Kind.model) c.elements-e-items.result.now c.loop-e.e-index c.loop-e.sum c.extent.result c.saturating_add-sum.result c.e-item.result c.loop-e-test.true c.e-item.is c.loop-e.invariant c.extent.ensures c.saturating_add-sum.ensures
 
 pub returns : goal.returns
 returns g c =

@@ -9,9 +9,9 @@ copied xs ys rest ws e f = ap (λ z. take (length xs) (z ++ rest)) e ∙ take_at
 pub returns : goal.returns
 returns g c =
     let m = g.K.Kind.model in
-    let e = ap length c.copy-from-slice.ensures.after in
+    let e = ap length c.copy_from_slice.ensures.after in
     let l = c.if-n-self.false in
-    let items = copied c.elements-xs.result.now c.copy-from-slice.new.self _ _ c.copy-from-slice.ensures.after c.elements-xs.ensures.value in
+    let items = copied c.elements-xs.result.now c.copy_from_slice.new.self _ _ c.copy_from_slice.ensures.after c.elements-xs.ensures.value in
     record {
       cases = record {
         items = items;

@@ -13,16 +13,16 @@ returns g c =
     let s = c.args.self.now in
     let e = c.args.e.now in
     let w = c.gather-to.result.0 in
-    let from = c.place-of-from.result in
+    let from = c.place_of-from.result in
     let to = c.gather-to.result.1 in
-    let found : Gathered m r c.elements-xs.result.now e w from to = record { low = c.gather-to.ensures.low; high = c.gather-to.ensures.high; parted = c.place-of-from.ensures.parted; whole = c.gather-to.ensures.whole; ends = c.gather-to.ensures.ends } in
+    let found : Gathered m r c.elements-xs.result.now e w from to = record { low = c.gather-to.ensures.low; high = c.gather-to.ensures.high; parted = c.place_of-from.ensures.parted; whole = c.gather-to.ensures.whole; ends = c.gather-to.ensures.ends } in
     let f : Gathered m r (items s) e w from to = subst (λ l. Gathered m r l e w from to) c.elements-xs.ensures.value found in
     let n = ap length c.elements-xs.ensures.value in
     let within = length-take s.count s.slots.now in
     record {
       exact = λ k.
           let few = k.few in
-          let long : c.saturating-add.result ≡ length (items s) - (to - from) + 1 = omega (arith, c.saturating-add.ensures) in
+          let long : c.saturating_add.result ≡ length (items s) - (to - from) + 1 = omega (arith, c.saturating_add.ensures) in
           counted_change m r (union (covered m s) (covers m e)) (w ∷ []) from to _ s f.low f.high (added_change m r s e w from to f) k long;
-      few = omega (arith, c.saturating-add.ensures);
+      few = omega (arith, c.saturating_add.ensures);
     }

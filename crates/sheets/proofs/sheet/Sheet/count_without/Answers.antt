@@ -14,9 +14,9 @@ returns-then-from-to g c =
     let r = g.met.K.Kind.rules in
     let s = c.args.self.now in
     let e = c.args.e.now in
-    let from = c.place-of-from.result in
+    let from = c.place_of-from.result in
     let to = c.reach-to.result in
-    let found : Reached m r c.elements-xs.result.now e from to = record { low = c.reach-to.ensures.low; high = c.reach-to.ensures.high; parted = c.place-of-from.ensures.parted; touch = c.reach-to.ensures.all; ends = c.reach-to.ensures.ends } in
+    let found : Reached m r c.elements-xs.result.now e from to = record { low = c.reach-to.ensures.low; high = c.reach-to.ensures.high; parted = c.place_of-from.ensures.parted; touch = c.reach-to.ensures.all; ends = c.reach-to.ensures.ends } in
     let f : Cut m r (items s) e from to [] = subst (λ l. Cut m r l e from to []) c.elements-xs.ensures.value (cut_none m r _ e from to c.if-from-to.true found) in
     let n = ap length c.elements-xs.ensures.value in
     let q = c.if-from-to.true in
@@ -32,13 +32,13 @@ returns g c =
     let r = g.met.K.Kind.rules in
     let s = c.args.self.now in
     let e = c.args.e.now in
-    let from = c.place-of-from.result in
+    let from = c.place_of-from.result in
     let to = c.reach-to.result in
-    let lo = c.left-part-left.result in
-    let ro = c.right-part-right.result in
+    let lo = c.left_part-left.result in
+    let ro = c.right_part-right.result in
     let less : from < to = omega (arith, c.reach-to.ensures.low, c.if-from-to.false) in
-    let found : Reached m r c.elements-xs.result.now e from to = record { low = c.reach-to.ensures.low; high = c.reach-to.ensures.high; parted = c.place-of-from.ensures.parted; touch = c.reach-to.ensures.all; ends = c.reach-to.ensures.ends } in
-    let f : Cut m r (items s) e from to (listed lo ro) = subst (λ l. Cut m r l e from to (listed lo ro)) c.elements-xs.ensures.value (cut_some m r _ e c.index-xs-from.result c.index-xs-to.result from to lo ro less c.reach-to.ensures.high c.index-xs-from.is c.index-xs-to.is c.left-part-left.ensures c.right-part-right.ensures found) in
+    let found : Reached m r c.elements-xs.result.now e from to = record { low = c.reach-to.ensures.low; high = c.reach-to.ensures.high; parted = c.place_of-from.ensures.parted; touch = c.reach-to.ensures.all; ends = c.reach-to.ensures.ends } in
+    let f : Cut m r (items s) e from to (listed lo ro) = subst (λ l. Cut m r l e from to (listed lo ro)) c.elements-xs.ensures.value (cut_some m r _ e c.index-xs-from.result c.index-xs-to.result from to lo ro less c.reach-to.ensures.high c.index-xs-from.is c.index-xs-to.is c.left_part-left.ensures c.right_part-right.ensures found) in
     let few : length (listed lo ro) ≤ 2 = few_listed m lo ro in
     let more : length (listed lo ro) ≤ to - from + 1 = omega arith in
     let n = ap length c.elements-xs.ensures.value in
@@ -46,7 +46,7 @@ returns g c =
     record {
       exact = λ k.
           let slots = k.few in
-          let long : c.saturating-add.result ≡ length (items s) - (to - from) + length (listed lo ro) = omega (arith, c.saturating-add.ensures, c.how-many.ensures) in
+          let long : c.saturating_add.result ≡ length (items s) - (to - from) + length (listed lo ro) = omega (arith, c.saturating_add.ensures, c.how_many.ensures) in
           counted_change m r (difference (covered m s) (covers m e)) (listed lo ro) from to _ s f.reached.low f.reached.high (removed_change m r s e from to (listed lo ro) more f) k long;
-      few = omega (arith, c.saturating-add.ensures, c.how-many.ensures, c.reach-to.ensures.high);
+      few = omega (arith, c.saturating_add.ensures, c.how_many.ensures, c.reach-to.ensures.high);
     }

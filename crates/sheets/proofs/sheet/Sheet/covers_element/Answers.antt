@@ -8,4 +8,4 @@ pub returns : goal.returns
 returns g c =
     let m = g.K.Kind.model in
     let v = c.elements.ensures.value in
-    λ s. subst (λ l. Decides c.lies-within.result (Part (covers m c.args.e.now) (cover m l))) v (c.lies-within.ensures (ap (canonical m) v ∙ s.ordered))
+    λ s. subst (λ l. Decides c.lies_within.result (Part (covers m c.args.e.now) (cover m l))) v (c.lies_within.ensures (ap (canonical m) v ∙ s.ordered))

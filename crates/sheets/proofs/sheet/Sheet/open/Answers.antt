@@ -2,14 +2,14 @@ use Rattle.std.proofs.Common.{◌+◌, ◌-◌, length, drop, refl, ap, ◌∙�
 use lib.Seq.{paste}
 use Rattle.sheets.proofs.sheet.Sheet.open.Goals as goal
 
-pub overflow-sub-self : goal.overflow-sub-self
-overflow-sub-self g c = omega (arith, c.elements-n.ensures.within)
+pub overflow_sub-self : goal.overflow_sub-self
+overflow_sub-self g c = omega (arith, c.elements-n.ensures.within)
 
-pub copy-within-requires : goal.copy-within-requires
-copy-within-requires g c =
+pub copy_within-requires : goal.copy_within-requires
+copy_within-requires g c =
     let n = ap length c.elements-n.ensures.value in
     let w = c.elements-n.ensures.within in
-    record { start-le-end = omega arith; in_bounds = omega arith; dest-in-bounds = omega arith; not-exhausted = tt }
+    record { start_le_end = omega arith; in_bounds = omega arith; dest_in_bounds = omega arith; not_exhausted = tt }
 
 pub returns : goal.returns
 returns g c =
@@ -17,7 +17,7 @@ returns g c =
     let w = c.elements-n.ensures.within in
     record {
       cases = record {
-        slots = c.copy-within.ensures.after ∙ ap (λ k. paste c.args.self.now.slots.now (c.args.from + c.args.more) (drop c.args.to c.args.self.now.slots.now) (k - c.args.to)) n;
+        slots = c.copy_within.ensures.after ∙ ap (λ k. paste c.args.self.now.slots.now (c.args.from + c.args.more) (drop c.args.to c.args.self.now.slots.now) (k - c.args.to)) n;
         count = ap (λ k. k - (c.args.to - c.args.from) + c.args.more) n;
         fits = omega arith;
       };

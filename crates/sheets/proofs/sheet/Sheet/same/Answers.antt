@@ -30,10 +30,10 @@ returns-then-xs-ys g c =
 apart : {E : Type 0} (xs ys : List E) (i : ℕ) (x y : E) (t : Bool) → i < length xs → x ≡ get_or xs i x → y ≡ get_or ys i y → Decides t (x ≡ y) → t ≡ false → xs ≡ ys → ⊥
 apart xs ys i x y t l p q d f e = false≢true (sym f ∙ d.1 (p ∙ get_or_default xs i x y l ∙ ap (λ zs. get_or zs i y) e ∙ sym q))
 
-pub returns-then-not-is-same : goal.returns-then-not-is-same
-returns-then-not-is-same g c =
+pub returns-then-not-is_same : goal.returns-then-not-is_same
+returns-then-not-is_same g c =
     let d = shown c.elements-xs.result.now c.elements-ys.result.now _ _ false c.elements-xs.ensures.value c.elements-ys.ensures.value
-    (no _ _ (apart c.elements-xs.result.now c.elements-ys.result.now c.loop-i.i c.index-xs-i.result c.index-ys-i.result c.is-same.result c.loop-i-test.true c.index-xs-i.is c.index-ys-i.is c.is-same.ensures c.if-not-is-same.true)) in
+    (no _ _ (apart c.elements-xs.result.now c.elements-ys.result.now c.loop-i.i c.index-xs-i.result c.index-ys-i.result c.is_same.result c.loop-i-test.true c.index-xs-i.is c.index-ys-i.is c.is_same.ensures c.if-not-is_same.true)) in
     record { cover = by_list g.K.Kind.model g.met.K.Kind.rules c.args.self.now c.args.other.now false d; list = d }
 
 pub returns : goal.returns
