@@ -12,7 +12,7 @@ use sheets::sheet::Sheet;
 
 // The sheet and its start copy become their sums with an element.
 pub fn draw_both<K: Kind>(sheet: &mut Sheet<K>, start: &mut Sheet<K>, e: K) -> Result<(), Refusal>
-    ensures { MatchResult result (λ _. Both model (plus model e) sheet.old start.old sheet.new start.new) (λ why. Neither model (plus model e) why sheet.old start.old sheet.new start.new) }
+    ensures { MatchResult result (λ _. Both K.model (plus K.model e) sheet.old start.old sheet.new start.new) (λ why. Neither K.model (plus K.model e) why sheet.old start.old sheet.new start.new) }
 {
     sheet.add(e)?;
     let _ = start.add(e);
@@ -21,7 +21,7 @@ pub fn draw_both<K: Kind>(sheet: &mut Sheet<K>, start: &mut Sheet<K>, e: K) -> R
 
 // The sheet and its start copy become their differences with an element.
 pub fn rub_both<K: Kind>(sheet: &mut Sheet<K>, start: &mut Sheet<K>, e: K) -> Result<(), Refusal>
-    ensures { MatchResult result (λ _. Both model (minus model e) sheet.old start.old sheet.new start.new) (λ why. Neither model (minus model e) why sheet.old start.old sheet.new start.new) }
+    ensures { MatchResult result (λ _. Both K.model (minus K.model e) sheet.old start.old sheet.new start.new) (λ why. Neither K.model (minus K.model e) why sheet.old start.old sheet.new start.new) }
 {
     sheet.remove(e)?;
     let _ = start.remove(e);
@@ -30,7 +30,7 @@ pub fn rub_both<K: Kind>(sheet: &mut Sheet<K>, start: &mut Sheet<K>, e: K) -> Re
 
 // Whether every element, placed, stays in the field.
 pub fn all_stay<K: Kind>(xs: &[K], p: Placement) -> bool
-    ensures { result ≡ Stays model p xs.now }
+    ensures { result ≡ Stays K.model p xs.now }
 {
     for x in xs {
         match x.place(p) {
@@ -54,7 +54,7 @@ pub fn has_room<K: Kind>(sheet: &Sheet<K>, left: usize, right: usize) -> bool
 
 // The element `x`, placed, is taken off.
 fn take_off<K: Kind>(sheet: &mut Sheet<K>, x: &K, p: Placement)
-    ensures { Turned model 1 (difference (covered model sheet.old) (AtomsOf model (model.place p x.now))) sheet.old sheet.new }
+    ensures { Turned K.model 1 (difference (covered K.model sheet.old) (AtomsOf K.model (K.model.place p x.now))) sheet.old sheet.new }
 {
     match x.place(p) {
         Some(e) => {
@@ -66,7 +66,7 @@ fn take_off<K: Kind>(sheet: &mut Sheet<K>, x: &K, p: Placement)
 
 // The element `x`, placed, is put on.
 fn put_on<K: Kind>(sheet: &mut Sheet<K>, x: &K, p: Placement)
-    ensures { Turned model 1 (union (covered model sheet.old) (AtomsOf model (model.place p x.now))) sheet.old sheet.new }
+    ensures { Turned K.model 1 (union (covered K.model sheet.old) (AtomsOf K.model (K.model.place p x.now))) sheet.old sheet.new }
 {
     match x.place(p) {
         Some(e) => {
@@ -78,7 +78,7 @@ fn put_on<K: Kind>(sheet: &mut Sheet<K>, x: &K, p: Placement)
 
 // The elements of `xs`, placed, are taken off.
 fn take_all_off<K: Kind>(sheet: &mut Sheet<K>, xs: &[K], p: Placement)
-    ensures { Turned model (length xs.now) (difference (covered model sheet.old) (Placed model p xs.now)) sheet.old sheet.new }
+    ensures { Turned K.model (length xs.now) (difference (covered K.model sheet.old) (Placed K.model p xs.now)) sheet.old sheet.new }
 {
     for x in xs {
         take_off(sheet, x, p);
@@ -87,7 +87,7 @@ fn take_all_off<K: Kind>(sheet: &mut Sheet<K>, xs: &[K], p: Placement)
 
 // The elements of `xs`, placed, are put on.
 fn put_all_on<K: Kind>(sheet: &mut Sheet<K>, xs: &[K], p: Placement)
-    ensures { Turned model (length xs.now) (union (covered model sheet.old) (Placed model p xs.now)) sheet.old sheet.new }
+    ensures { Turned K.model (length xs.now) (union (covered K.model sheet.old) (Placed K.model p xs.now)) sheet.old sheet.new }
 {
     for x in xs {
         put_on(sheet, x, p);
@@ -96,7 +96,7 @@ fn put_all_on<K: Kind>(sheet: &mut Sheet<K>, xs: &[K], p: Placement)
 
 // The elements of `left`, placed, are taken off, and then those of `right` are put on.
 pub fn replace<K: Kind>(sheet: &mut Sheet<K>, left: &[K], right: &[K], p: Placement)
-    ensures { Turned model (length left.now + length right.now) (union (difference (covered model sheet.old) (Placed model p left.now)) (Placed model p right.now)) sheet.old sheet.new }
+    ensures { Turned K.model (length left.now + length right.now) (union (difference (covered K.model sheet.old) (Placed K.model p left.now)) (Placed K.model p right.now)) sheet.old sheet.new }
 {
     take_all_off(sheet, left, p);
     put_all_on(sheet, right, p);

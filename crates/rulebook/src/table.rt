@@ -26,7 +26,7 @@ pub struct Table<'a, K> {
 impl<'a, K: Kind> Table<'a, K> {
     // A table without a stretch; refused if it has more than 4096 slots.
     pub fn new(slots: &'a mut [K]) -> Result<Table<'a, K>, Refusal>
-        ensures { MatchResult result (λ t. Tidy model t × (t.from ≡ 0) × (t.used ≡ 0) × (length t.slots.now ≡ length slots.old)) (λ why. (Number why ≡ 10) × (4096 < length slots.old)) }
+        ensures { MatchResult result (λ t. Tidy K.model t × (t.from ≡ 0) × (t.used ≡ 0) × (length t.slots.now ≡ length slots.old)) (λ why. (Number why ≡ 10) × (4096 < length slots.old)) }
     {
         if slots.len() > MOST_SLOTS {
             return Err(Refusal::BadTables);
@@ -69,7 +69,7 @@ impl<'a, K: Kind> Table<'a, K> {
 
     // The open stretch becomes its sum with `e`.
     pub fn sum(&mut self, e: K) -> Result<(), Refusal>
-        ensures cases { MatchResult result (λ _. Grew model e self.old self.new) (λ why. Stayed model e why self.old self.new) }
+        ensures cases { MatchResult result (λ _. Grew K.model e self.old self.new) (λ why. Stayed K.model e why self.old self.new) }
         ensures lender { self.new.slots.ghost_name ≡ self.old.slots.ghost_name }
     {
         let from = self.from.min(self.slots.len());

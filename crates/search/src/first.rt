@@ -42,7 +42,7 @@ fn beats(q: Placement, best: Option<Placement>) -> bool
 
 // The first atom of the first element.
 fn first_atom<K: Kind>(xs: &[K]) -> Option<K::Atom>
-    ensures { FirstAtom model xs.now result }
+    ensures { FirstAtom K.model xs.now result }
 {
     if xs.len() > 0 {
         let e = &xs[0];

@@ -17,7 +17,7 @@ pub struct Scene<'a, M, C> {
 
 // Whether `p` takes every atom of the left elements to an atom of the drawn ones.
 fn is_onto<K: Kind>(left: &[K], drawn: &[K], p: Placement) -> bool
-    ensures { canonical model drawn.now ≡ true → Decides result (Onto model left.now drawn.now p) }
+    ensures { canonical K.model drawn.now ≡ true → Decides result (Onto K.model left.now drawn.now p) }
 {
     for e in left {
         match e.place(p) {

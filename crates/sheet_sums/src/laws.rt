@@ -6,18 +6,18 @@ use kinds::kind::Kind;
 
 // A set has one list, which is that of its maximal elements.
 pub fn one_list<K: Kind>(_any: &K)
-    ensures maximal { ExactlyMaximal model }
-    ensures one { OneList model }
+    ensures maximal { ExactlyMaximal K.model }
+    ensures one { OneList K.model }
 {}
 
 // What holds of sums, differences and parts.
 pub fn laws<K: Kind>(_any: &K)
-    ensures sums { SumsExist model }
-    ensures differences { DifferencesExist model }
-    ensures commutes { SumCommutes model }
-    ensures associates { SumAssociates model }
-    ensures idempotent { SumWithItself model }
-    ensures back { DifferenceThenSum model }
-    ensures part { PartOfSum model }
-    ensures both { PartBothWays model }
+    ensures sums { SumsExist K.model }
+    ensures differences { DifferencesExist K.model }
+    ensures commutes { SumCommutes K.model }
+    ensures associates { SumAssociates K.model }
+    ensures idempotent { SumWithItself K.model }
+    ensures back { DifferenceThenSum K.model }
+    ensures part { PartOfSum K.model }
+    ensures both { PartBothWays K.model }
 {}

@@ -13,7 +13,7 @@ use sheets::sheet::Sheet;
 
 // How many elements the sum of the two has.
 fn count_sum<K: Kind>(sheet: &Sheet<K>, other: &Sheet<K>) -> usize
-    ensures { Sound model sheet.now → Sound model other.now → Counts model (union (covered model sheet.now) (covered model other.now)) result }
+    ensures { Sound K.model sheet.now → Sound K.model other.now → Counts K.model (union (covered K.model sheet.now) (covered K.model other.now)) result }
 {
     let before = sheet.count();
     let mut count = before;
@@ -27,9 +27,9 @@ fn count_sum<K: Kind>(sheet: &Sheet<K>, other: &Sheet<K>) -> usize
 
 // Sum with those elements of the other that do not lengthen the list.
 fn add_joining<K: Kind>(sheet: &mut Sheet<K>, other: &Sheet<K>)
-    ensures sound { Sound model sheet.old → Sound model sheet.new }
+    ensures sound { Sound K.model sheet.old → Sound K.model sheet.new }
     ensures room { RoomOf sheet.new ≡ RoomOf sheet.old }
-    ensures begun { Sound model sheet.old → Sound model other.now → Begun model plus (items other.now) other.now sheet.old sheet.new }
+    ensures begun { Sound K.model sheet.old → Sound K.model other.now → Begun K.model plus (items other.now) other.now sheet.old sheet.new }
     ensures lender { sheet.new.slots.ghost_name ≡ sheet.old.slots.ghost_name }
 {
     for e in other.elements() {
@@ -41,9 +41,9 @@ fn add_joining<K: Kind>(sheet: &mut Sheet<K>, other: &Sheet<K>)
 
 // Sum with every element of the other, if there is room for each.
 fn add_each<K: Kind>(sheet: &mut Sheet<K>, other: &Sheet<K>)
-    ensures sound { Sound model sheet.old → Sound model sheet.new }
+    ensures sound { Sound K.model sheet.old → Sound K.model sheet.new }
     ensures room { RoomOf sheet.new ≡ RoomOf sheet.old }
-    ensures covers { Sound model sheet.old → Sound model other.now → Fits model plus other.now sheet.old → Same (covered model sheet.new) (union (covered model sheet.old) (covered model other.now)) }
+    ensures covers { Sound K.model sheet.old → Sound K.model other.now → Fits K.model plus other.now sheet.old → Same (covered K.model sheet.new) (union (covered K.model sheet.old) (covered K.model other.now)) }
     ensures lender { sheet.new.slots.ghost_name ≡ sheet.old.slots.ghost_name }
 {
     for e in other.elements() {
@@ -53,7 +53,7 @@ fn add_each<K: Kind>(sheet: &mut Sheet<K>, other: &Sheet<K>)
 
 // Sum with a whole sheet: the sheet covers the atoms of the other too.
 pub fn add_all<K: Kind>(sheet: &mut Sheet<K>, other: &Sheet<K>) -> Result<(), Refusal>
-    ensures cases { MatchResult result (λ _. BecameAll model (union (covered model sheet.old) (covered model other.now)) other.now sheet.old sheet.new) (λ why. RefusedAll model (union (covered model sheet.old) (covered model other.now)) other.now sheet.old sheet.new why) }
+    ensures cases { MatchResult result (λ _. BecameAll K.model (union (covered K.model sheet.old) (covered K.model other.now)) other.now sheet.old sheet.new) (λ why. RefusedAll K.model (union (covered K.model sheet.old) (covered K.model other.now)) other.now sheet.old sheet.new why) }
     ensures lender { sheet.new.slots.ghost_name ≡ sheet.old.slots.ghost_name }
 {
     if count_sum(sheet, other) > sheet.room() {
@@ -66,7 +66,7 @@ pub fn add_all<K: Kind>(sheet: &mut Sheet<K>, other: &Sheet<K>) -> Result<(), Re
 
 // How many elements the difference of the two has.
 fn count_difference<K: Kind>(sheet: &Sheet<K>, other: &Sheet<K>) -> usize
-    ensures { Sound model sheet.now → Sound model other.now → Counts model (difference (covered model sheet.now) (covered model other.now)) result }
+    ensures { Sound K.model sheet.now → Sound K.model other.now → Counts K.model (difference (covered K.model sheet.now) (covered K.model other.now)) result }
 {
     let before = sheet.count();
     let mut count = before;
@@ -80,9 +80,9 @@ fn count_difference<K: Kind>(sheet: &Sheet<K>, other: &Sheet<K>) -> usize
 
 // Difference with those elements of the other that do not lengthen the list.
 fn remove_unsplit<K: Kind>(sheet: &mut Sheet<K>, other: &Sheet<K>)
-    ensures sound { Sound model sheet.old → Sound model sheet.new }
+    ensures sound { Sound K.model sheet.old → Sound K.model sheet.new }
     ensures room { RoomOf sheet.new ≡ RoomOf sheet.old }
-    ensures begun { Sound model sheet.old → Sound model other.now → Begun model minus (items other.now) other.now sheet.old sheet.new }
+    ensures begun { Sound K.model sheet.old → Sound K.model other.now → Begun K.model minus (items other.now) other.now sheet.old sheet.new }
     ensures lender { sheet.new.slots.ghost_name ≡ sheet.old.slots.ghost_name }
 {
     for e in other.elements() {
@@ -94,9 +94,9 @@ fn remove_unsplit<K: Kind>(sheet: &mut Sheet<K>, other: &Sheet<K>)
 
 // Difference with every element of the other, if there is room for each.
 fn remove_each<K: Kind>(sheet: &mut Sheet<K>, other: &Sheet<K>)
-    ensures sound { Sound model sheet.old → Sound model sheet.new }
+    ensures sound { Sound K.model sheet.old → Sound K.model sheet.new }
     ensures room { RoomOf sheet.new ≡ RoomOf sheet.old }
-    ensures covers { Sound model sheet.old → Sound model other.now → Fits model minus other.now sheet.old → Same (covered model sheet.new) (difference (covered model sheet.old) (covered model other.now)) }
+    ensures covers { Sound K.model sheet.old → Sound K.model other.now → Fits K.model minus other.now sheet.old → Same (covered K.model sheet.new) (difference (covered K.model sheet.old) (covered K.model other.now)) }
     ensures lender { sheet.new.slots.ghost_name ≡ sheet.old.slots.ghost_name }
 {
     for e in other.elements() {
@@ -106,7 +106,7 @@ fn remove_each<K: Kind>(sheet: &mut Sheet<K>, other: &Sheet<K>)
 
 // Difference with a whole sheet: the sheet covers the atoms of the other no more.
 pub fn remove_all<K: Kind>(sheet: &mut Sheet<K>, other: &Sheet<K>) -> Result<(), Refusal>
-    ensures cases { MatchResult result (λ _. BecameAll model (difference (covered model sheet.old) (covered model other.now)) other.now sheet.old sheet.new) (λ why. RefusedAll model (difference (covered model sheet.old) (covered model other.now)) other.now sheet.old sheet.new why) }
+    ensures cases { MatchResult result (λ _. BecameAll K.model (difference (covered K.model sheet.old) (covered K.model other.now)) other.now sheet.old sheet.new) (λ why. RefusedAll K.model (difference (covered K.model sheet.old) (covered K.model other.now)) other.now sheet.old sheet.new why) }
     ensures lender { sheet.new.slots.ghost_name ≡ sheet.old.slots.ghost_name }
 {
     if count_difference(sheet, other) > sheet.room() {

@@ -11,7 +11,7 @@ use kinds::kind::Kind;
 // How many elements stand before `e` and do not touch it.
 pub fn place_of<K: Kind>(xs: &[K], e: &K) -> usize
     ensures within { result ≤ length xs.now }
-    ensures parted { canonical model xs.now ≡ true → Parted (λ x. ahead model x e.now) xs.now result }
+    ensures parted { canonical K.model xs.now ≡ true → Parted (λ x. ahead K.model x e.now) xs.now result }
 {
     let mut low = 0;
     let mut high = xs.len();
@@ -31,8 +31,8 @@ pub fn gather<K: Kind>(xs: &[K], from: usize, e: K) -> (K, usize)
     requires { from ≤ length xs.now }
     ensures low { from ≤ result.1 }
     ensures high { result.1 ≤ length xs.now }
-    ensures whole { Whole model e (between from result.1 xs.now) result.0 }
-    ensures ends { (d : K) → result.1 < length xs.now → Touch model result.0 (slice_index_or xs.now result.1 d) → ⊥ }
+    ensures whole { Whole K.model e (between from result.1 xs.now) result.0 }
+    ensures ends { (d : K) → result.1 < length xs.now → Touch K.model result.0 (slice_index_or xs.now result.1 d) → ⊥ }
 {
     let mut whole = e;
     let mut to = from;
@@ -53,8 +53,8 @@ pub fn reach<K: Kind>(xs: &[K], from: usize, e: &K) -> usize
     requires { from ≤ length xs.now }
     ensures low { from ≤ result }
     ensures high { result ≤ length xs.now }
-    ensures all { All (Touch model e.now) (between from result xs.now) }
-    ensures ends { (d : K) → result < length xs.now → Touch model e.now (slice_index_or xs.now result d) → ⊥ }
+    ensures all { All (Touch K.model e.now) (between from result xs.now) }
+    ensures ends { (d : K) → result < length xs.now → Touch K.model e.now (slice_index_or xs.now result d) → ⊥ }
 {
     let mut to = from;
     while to < xs.len() {

@@ -11,7 +11,7 @@ use std::cmp::Ordering;
 
 // Whether `a` stands before `b` and does not touch it.
 pub fn is_ahead<K: Kind>(a: &K, b: &K) -> bool
-    ensures { result ≡ ahead model a.now b.now }
+    ensures { result ≡ ahead K.model a.now b.now }
 {
     match a.compare(b) {
         Ordering::Less => true,
@@ -22,7 +22,7 @@ pub fn is_ahead<K: Kind>(a: &K, b: &K) -> bool
 
 // Whether two elements overlap or touch.
 pub fn touches<K: Kind>(a: &K, b: &K) -> bool
-    ensures { Decides result (Touch model a.now b.now) }
+    ensures { Decides result (Touch K.model a.now b.now) }
 {
     match a.compare(b) {
         Ordering::Equal => a.start() <= b.end() && b.start() <= a.end(),
@@ -32,7 +32,7 @@ pub fn touches<K: Kind>(a: &K, b: &K) -> bool
 
 // Whether all atoms of `e` are atoms of `x`.
 pub fn contains<K: Kind>(x: &K, e: &K) -> bool
-    ensures { Decides result (Part (covers model e.now) (covers model x.now)) }
+    ensures { Decides result (Part (covers K.model e.now) (covers K.model x.now)) }
 {
     match x.compare(e) {
         Ordering::Equal => x.start() <= e.start() && e.end() <= x.end(),
@@ -52,21 +52,21 @@ pub fn is_same<K: Kind>(a: &K, b: &K) -> bool
 
 // What of `x` lies before the start of `e`.
 pub fn left_part<K: Kind>(x: K, e: &K) -> Option<K>
-    ensures { LeftPart model e.now x result }
+    ensures { LeftPart K.model e.now x result }
 {
     x.part(x.start(), x.end().min(e.start()))
 }
 
 // What of `x` lies from the end of `e` on.
 pub fn right_part<K: Kind>(x: K, e: &K) -> Option<K>
-    ensures { RightPart model e.now x result }
+    ensures { RightPart K.model e.now x result }
 {
     x.part(x.start().max(e.end()), x.end())
 }
 
 // How many atoms an element has.
 pub fn extent<K: Kind>(e: &K) -> u64
-    ensures { result ≡ size model e.now }
+    ensures { result ≡ size K.model e.now }
 {
     (e.end() as i64 - e.start() as i64) as u64
 }

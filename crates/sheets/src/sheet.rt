@@ -28,7 +28,7 @@ pub struct Sheet<'a, K> {
 impl<'a, K: Kind> Sheet<'a, K> {
     // An empty sheet over the slots, of which there may be up to 4096.
     pub fn new(slots: &'a mut [K]) -> Result<Sheet<'a, K>, Refusal>
-        ensures { MatchResult result (λ s. Sound model s × (items s ≡ []) × (RoomOf s ≡ length slots.old) × (s.slots.ghost_name ≡ slots.entry.ghost_name)) (λ e. (Number e ≡ 10) × (4096 < length slots.old)) }
+        ensures { MatchResult result (λ s. Sound K.model s × (items s ≡ []) × (RoomOf s ≡ length slots.old) × (s.slots.ghost_name ≡ slots.entry.ghost_name)) (λ e. (Number e ≡ 10) × (4096 < length slots.old)) }
     {
         if slots.len() > MOST_SLOTS {
             return Err(Refusal::BadTables);
@@ -40,7 +40,7 @@ impl<'a, K: Kind> Sheet<'a, K> {
     pub fn elements(&self) -> &[K]
         ensures value { result.now ≡ items self.now }
         ensures within { length result.now ≤ RoomOf self.now }
-        ensures maximal { Sound model self.now → Exactly model (covered model self.now) result.now }
+        ensures maximal { Sound K.model self.now → Exactly K.model (covered K.model self.now) result.now }
     {
         let n = self.count.min(self.slots.len());
         &self.slots[0..n]
@@ -146,7 +146,7 @@ impl<'a, K: Kind> Sheet<'a, K> {
 
     // Sum with one element: the sheet covers the atoms of `e` too.
     pub fn add(&mut self, e: K) -> Result<(), Refusal>
-        ensures cases { MatchResult result (λ _. Became model (union (covered model self.old) (covers model e)) self.old self.new) (λ why. Refused model (union (covered model self.old) (covers model e)) self.old self.new why) }
+        ensures cases { MatchResult result (λ _. Became K.model (union (covered K.model self.old) (covers K.model e)) self.old self.new) (λ why. Refused K.model (union (covered K.model self.old) (covers K.model e)) self.old self.new why) }
         ensures longer { length (items self.new) ≤ length (items self.old) + 1 }
         ensures taken { OnErr result (length (items self.old) ≡ RoomOf self.old) }
         ensures lender { self.new.slots.ghost_name ≡ self.old.slots.ghost_name }
@@ -159,7 +159,7 @@ impl<'a, K: Kind> Sheet<'a, K> {
 
     // Difference with one element: the sheet covers the atoms of `e` no more.
     pub fn remove(&mut self, e: K) -> Result<(), Refusal>
-        ensures cases { MatchResult result (λ _. Became model (difference (covered model self.old) (covers model e)) self.old self.new) (λ why. Refused model (difference (covered model self.old) (covers model e)) self.old self.new why) }
+        ensures cases { MatchResult result (λ _. Became K.model (difference (covered K.model self.old) (covers K.model e)) self.old self.new) (λ why. Refused K.model (difference (covered K.model self.old) (covers K.model e)) self.old self.new why) }
         ensures longer { length (items self.new) ≤ length (items self.old) + 1 }
         ensures taken { OnErr result (length (items self.old) ≡ RoomOf self.old) }
         ensures lender { self.new.slots.ghost_name ≡ self.old.slots.ghost_name }
@@ -177,7 +177,7 @@ impl<'a, K: Kind> Sheet<'a, K> {
 
     // How many elements the sheet would have with the atoms of `e`.
     pub fn count_with(&self, e: &K) -> usize
-        ensures exact { Sound model self.now → Counts model (union (covered model self.now) (covers model e.now)) result }
+        ensures exact { Sound K.model self.now → Counts K.model (union (covered K.model self.now) (covers K.model e.now)) result }
         ensures few { result ≤ length (items self.now) + 1 }
     {
         let xs = self.elements();
@@ -189,7 +189,7 @@ impl<'a, K: Kind> Sheet<'a, K> {
 
     // How many elements the sheet would have without the atoms of `e`.
     pub fn count_without(&self, e: &K) -> usize
-        ensures exact { Sound model self.now → Counts model (difference (covered model self.now) (covers model e.now)) result }
+        ensures exact { Sound K.model self.now → Counts K.model (difference (covered K.model self.now) (covers K.model e.now)) result }
         ensures few { result ≤ length (items self.now) + 1 }
     {
         let xs = self.elements();
@@ -206,14 +206,14 @@ impl<'a, K: Kind> Sheet<'a, K> {
 
     // Whether the sheet covers all atoms of `e`.
     pub fn covers_element(&self, e: &K) -> bool
-        ensures { Sound model self.now → Decides result (Part (covers model e.now) (covered model self.now)) }
+        ensures { Sound K.model self.now → Decides result (Part (covers K.model e.now) (covered K.model self.now)) }
     {
         lies_within(e, self.elements())
     }
 
     // Whether every atom that the sheet covers is covered by the other.
     pub fn is_part_of(&self, other: &Sheet<K>) -> bool
-        ensures { Sound model other.now → Decides result (Part (covered model self.now) (covered model other.now)) }
+        ensures { Sound K.model other.now → Decides result (Part (covered K.model self.now) (covered K.model other.now)) }
     {
         for e in self.elements() {
             if !other.covers_element(e) {
@@ -225,7 +225,7 @@ impl<'a, K: Kind> Sheet<'a, K> {
 
     // Whether the two sheets cover the same, which is whether they have the same list.
     pub fn same(&self, other: &Sheet<K>) -> bool
-        ensures cover { Sound model self.now → Sound model other.now → Decides result (Same (covered model self.now) (covered model other.now)) }
+        ensures cover { Sound K.model self.now → Sound K.model other.now → Decides result (Same (covered K.model self.now) (covered K.model other.now)) }
         ensures list { Decides result (items self.now ≡ items other.now) }
     {
         let xs = self.elements();
@@ -243,8 +243,8 @@ impl<'a, K: Kind> Sheet<'a, K> {
 
     // How many atoms the sheet covers. If it is not sound, the sum of its elements' atoms, or the greatest number if that is more.
     pub fn atoms(&self) -> u64
-        ensures value { result ≡ min (sizes model (items self.now)) (2 ^ 64 - 1) }
-        ensures exact { Sound model self.now → Census (covered model self.now) result }
+        ensures value { result ≡ min (sizes K.model (items self.now)) (2 ^ 64 - 1) }
+        ensures exact { Sound K.model self.now → Census (covered K.model self.now) result }
     {
         let mut sum: u64 = 0;
         for e in self.elements() {
@@ -255,7 +255,7 @@ impl<'a, K: Kind> Sheet<'a, K> {
 
     // The sheet becomes a copy of the other, if it has slots enough.
     pub fn copy_from(&mut self, other: &Sheet<K>) -> Result<(), Refusal>
-        ensures cases { MatchResult result (λ _. Copied model other.now self.old self.new) (λ why. TooMany other.now self.old self.new why) }
+        ensures cases { MatchResult result (λ _. Copied K.model other.now self.old self.new) (λ why. TooMany other.now self.old self.new why) }
         ensures lender { self.new.slots.ghost_name ≡ self.old.slots.ghost_name }
     {
         let xs = other.elements();

@@ -12,7 +12,7 @@ use lattice::refusal::Refusal;
 
 // The first `count` slots become their sum with `e`; answers how many slots that takes.
 pub fn sum_into<K: Kind>(slots: &mut [K], count: usize, e: K) -> Result<usize, Refusal>
-    ensures { MatchResult result (λ n. SlotsBecame model count e n slots.old slots.new) (λ why. SlotsStayed model count e why slots.old slots.new) }
+    ensures { MatchResult result (λ n. SlotsBecame K.model count e n slots.old slots.new) (λ why. SlotsStayed K.model count e why slots.old slots.new) }
 {
     let mut sheet = Sheet { slots, count };
     sheet.add(e)?;

@@ -10,7 +10,7 @@ use kinds::kind::Kind;
 
 // Whether sorted elements cover all atoms of `e`: if one does, it is the first that does not stand before it.
 pub fn lies_within<K: Kind>(e: &K, xs: &[K]) -> bool
-    ensures { canonical model xs.now ≡ true → Decides result (Part (covers model e.now) (cover model xs.now)) }
+    ensures { canonical K.model xs.now ≡ true → Decides result (Part (covers K.model e.now) (cover K.model xs.now)) }
 {
     let at = place_of(xs, e);
     if at < xs.len() {

@@ -23,11 +23,11 @@ low s i v h n inv =
     let b = small (take i s) 8 inv.1 (omega arith) in
     omega arith
 
-pub overflow-mul-value : goal.overflow-mul-value
-overflow-mul-value c = omega (arith, low c.args.field.now c.loop-b.b-index c.loop-b.value c.loop-b-test.true c.if-field-gt9.false c.loop-b.invariant)
+pub overflow_mul-value : goal.overflow_mul-value
+overflow_mul-value c = omega (arith, low c.args.field.now c.loop-b.b-index c.loop-b.value c.loop-b-test.true c.if-field-gt9.false c.loop-b.invariant)
 
-pub overflow-add-value : goal.overflow-add-value
-overflow-add-value c = omega (arith, low c.args.field.now c.loop-b.b-index c.loop-b.value c.loop-b-test.true c.if-field-gt9.false c.loop-b.invariant)
+pub overflow_add-value : goal.overflow_add-value
+overflow_add-value c = omega (arith, low c.args.field.now c.loop-b.b-index c.loop-b.value c.loop-b-test.true c.if-field-gt9.false c.loop-b.invariant)
 
 pub loop-b-preserved : goal.loop-b-preserved
 loop-b-preserved c =

@@ -10,8 +10,8 @@ pub returns : goal.returns
 returns c =
     let fw : SFits w32 c.args.w = search rules in
     let fh : SFits w32 c.args.h = search rules in
-    let a = simp to_z-of_z at c.unsigned-abs.ensures.value in
-    let b = simp to_z-of_z at c.unsigned-abs-2.ensures.value in
+    let a = simp to_z-of_z at c.unsigned_abs.ensures.value in
+    let b = simp to_z-of_z at c.unsigned_abs-2.ensures.value in
     let e : c.gcd.result ≡ gcd (nat_abs c.args.w) (nat_abs c.args.h) = c.gcd.ensures.value ∙ (λ i. gcd (a i) (b i)) in
     record {
       value = e;

@@ -10,14 +10,14 @@ small z h = omega (arith, ints)
 sums : (z w : ℤ) → nat_abs z ≤ 2000 → nat_abs w ≤ 40000000 → SFits w64 (z +ℤ w)
 sums z w h k = omega (arith, ints)
 
-pub overflow-mul-result : goal.overflow-mul-result
-overflow-mul-result c =
+pub overflow_mul-result : goal.overflow_mul-result
+overflow_mul-result c =
     let fd : SFits w64 c.args.d = search rules in
     let fn : SFits w64 c.args.n = search rules in
     simp to_z-of_z (small (c.args.n *ℤ c.args.d) (size_product c.args.n c.args.d 10000 4000 c.requires.steps c.requires.step))
 
-pub overflow-add-result : goal.overflow-add-result
-overflow-add-result c =
+pub overflow_add-result : goal.overflow_add-result
+overflow_add-result c =
     let fz : SFits w64 c.args.z = search rules in
     let fd : SFits w64 c.args.d = search rules in
     let fn : SFits w64 c.args.n = search rules in

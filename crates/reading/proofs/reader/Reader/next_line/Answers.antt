@@ -5,16 +5,16 @@ use Rattle.reading.specs.Readers.{rest}
 use Rattle.reading.proofs.Counting.{count_line, count_ended, newlines_le, is_ended_yes, is_ended_no, after_ended, after_last, next_number, same_number}
 use Rattle.reading.proofs.reader.Reader.next_line.Goals as goal
 
-pub invariant-of-self : goal.invariant-of-self
-invariant-of-self c =
+pub invariant_of-self : goal.invariant_of-self
+invariant_of-self c =
     let v = c.rest-rest.ensures.value in
-    let e = c.up-to-end-n.ensures.value ∙ ap line_length v in
+    let e = c.up_to_end-n.ensures.value ∙ ap line_length v in
     (omega (arith, c.rest-rest.ensures.len), (c.args.self.now.short, (c.args.self.now.early, (c.args.self.now.counted ∙ ap (λ (k : ℕ). c.args.self.now.first + k) (sym (count_line _ _ _ e)), tt))))
 
 pub returns-then-n-rest : goal.returns-then-n-rest
 returns-then-n-rest c =
     let v = c.rest-rest.ensures.value in
-    let e = c.up-to-end-n.ensures.value ∙ ap line_length v in
+    let e = c.up_to_end-n.ensures.value ∙ ap line_length v in
     let l = c.if-n-rest.true ∙ ap length v in
     let no = is_ended_no _ _ e l in
     record {
@@ -26,22 +26,22 @@ returns-then-n-rest c =
       line = same_number _ _ no;
     }
 
-pub overflow-add-self-4 : goal.overflow-add-self-4
-overflow-add-self-4 c = omega (arith, c.args.self.now.counted, c.args.self.now.early, c.args.self.now.short, newlines_le c.args.self.now.text.now c.args.self.now.at)
+pub overflow_add-self-4 : goal.overflow_add-self-4
+overflow_add-self-4 c = omega (arith, c.args.self.now.counted, c.args.self.now.early, c.args.self.now.short, newlines_le c.args.self.now.text.now c.args.self.now.at)
 
-pub invariant-of-self-2 : goal.invariant-of-self-2
-invariant-of-self-2 c =
+pub invariant_of-self-2 : goal.invariant_of-self-2
+invariant_of-self-2 c =
     let v = c.rest-rest.ensures.value in
-    let e = c.up-to-end-n.ensures.value ∙ ap line_length v in
-    let l : c.up-to-end-n.result < length (rest c.args.self.now) = omega (arith, ap length v, c.up-to-end-n.ensures.within, c.if-n-rest.false) in
+    let e = c.up_to_end-n.ensures.value ∙ ap line_length v in
+    let l : c.up_to_end-n.result < length (rest c.args.self.now) = omega (arith, ap length v, c.up_to_end-n.ensures.within, c.if-n-rest.false) in
     (omega (arith, c.rest-rest.ensures.len, ap length v), (c.args.self.now.short, (c.args.self.now.early, (omega (arith, c.args.self.now.counted, count_ended c.args.self.now.text.now c.args.self.now.at _ e l), tt))))
 
 pub returns : goal.returns
 returns c =
     let v = c.rest-rest.ensures.value in
-    let e = c.up-to-end-n.ensures.value ∙ ap line_length v in
-    let l : c.up-to-end-n.result < length (rest c.args.self.now) = omega (arith, ap length v, c.up-to-end-n.ensures.within, c.if-n-rest.false) in
-    let z : c.up-to-end-n.result - 0 ≡ line_length (rest c.args.self.now) = omega (arith, e) in
+    let e = c.up_to_end-n.ensures.value ∙ ap line_length v in
+    let l : c.up_to_end-n.result < length (rest c.args.self.now) = omega (arith, ap length v, c.up_to_end-n.ensures.within, c.if-n-rest.false) in
+    let z : c.up_to_end-n.result - 0 ≡ line_length (rest c.args.self.now) = omega (arith, e) in
     let yes = is_ended_yes _ _ e l in
     record {
       some = omega (arith, l);

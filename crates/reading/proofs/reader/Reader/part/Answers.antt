@@ -5,7 +5,7 @@ use Rattle.reading.proofs.reader.Reader.part.Goals as goal
 
 pub returns : goal.returns
 returns c =
-    let v = c.at-most-file.ensures.value in
+    let v = c.at_most-file.ensures.value in
     let f = c.min-from.ensures in
     let t = c.max-to.ensures ∙ ap (λ (k : ℕ). max k c.min-from.result) c.min.ensures in
     record {

@@ -17,6 +17,6 @@ returns c =
     let y = simp to_z-of_z at c.from-2.ensures in
     let p = simp to_z-of_z at c.sum.ensures in
     let q = simp to_z-of_z at c.sum-2.ensures in
-    let a : (ranged c.args.self.x && ranged c.args.self.y) ≡ true = (λ i. ranged (sym x i) && ranged (sym y i)) ∙ sym (simp to_z-of_z at c.both-inside.ensures) ∙ c.if-not-both-inside.false in
-    let b : c.both-inside-2.result ≡ (ranged (c.args.self.x +ℤ c.args.self.dx) && ranged (c.args.self.y +ℤ c.args.self.dy)) = simp to_z-of_z at c.both-inside-2.ensures ∙ (λ i. ranged (p i) && ranged (q i)) in
+    let a : (ranged c.args.self.x && ranged c.args.self.y) ≡ true = (λ i. ranged (sym x i) && ranged (sym y i)) ∙ sym (simp to_z-of_z at c.both_inside.ensures) ∙ c.if-not-both_inside.false in
+    let b : c.both_inside-2.result ≡ (ranged (c.args.self.x +ℤ c.args.self.dx) && ranged (c.args.self.y +ℤ c.args.self.dy)) = simp to_z-of_z at c.both_inside-2.ensures ∙ (λ i. ranged (p i) && ranged (q i)) in
     b ∙ ap (λ (t : Bool). t && (ranged (c.args.self.x +ℤ c.args.self.dx) && ranged (c.args.self.y +ℤ c.args.self.dy))) (sym a)

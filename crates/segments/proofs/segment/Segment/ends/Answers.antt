@@ -15,8 +15,8 @@ use Rattle.segments.proofs.segment.Segment.ends.Goals as goal
 sums : (s n r : ℤ) → pos 0 <ℤ n → negsuc 1999 ≤ℤ s → (s +ℤ n) ≤ℤ pos 2001 → r ≡ s +ℤ n → (negsuc 1999 ≤ℤ r) × (r ≤ℤ pos 2001) × SFits w32 r
 sums s n r a b c e = (omega (arith, ints), omega (arith, ints), omega (arith, ints))
 
-pub overflow-add-result : goal.overflow-add-result
-overflow-add-result c =
+pub overflow_add-result : goal.overflow_add-result
+overflow_add-result c =
     let e = c.args.self.now in
     let fb : SFits w32 c.begins.result = search rules in
     let fn : SFits w32 c.args.self.now.edges = search rules in

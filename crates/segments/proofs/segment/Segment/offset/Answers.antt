@@ -15,8 +15,8 @@ use Rattle.segments.proofs.segment.Segment.offset.Goals as goal
 sums : (s n a b r : ℤ) → negsuc 1999 ≤ℤ s → (s +ℤ n) ≤ℤ pos 2001 → s ≤ℤ a → a ≤ℤ (s +ℤ n) → r ≡ a -ℤ s → (pos 0 ≤ℤ r) × (r ≤ℤ n) × (r ≤ℤ pos 10000) × SFits w32 r
 sums s n a b r h k l m e = (omega (arith, ints), omega (arith, ints), omega (arith, ints), omega (arith, ints))
 
-pub overflow-sub-result : goal.overflow-sub-result
-overflow-sub-result c =
+pub overflow_sub-result : goal.overflow_sub-result
+overflow_sub-result c =
     let e = c.args.self.now in
     let fa : SFits w32 c.args.at = search rules in
     let fb : SFits w32 c.begins.result = search rules in

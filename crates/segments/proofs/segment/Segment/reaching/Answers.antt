@@ -21,8 +21,8 @@ above s t h = omega (arith, ints)
 there : (s t : ℤ) → s +ℤ (t -ℤ s) ≡ t
 there s t = omega (arith, ints)
 
-pub invariant-of-result : goal.invariant-of-result
-invariant-of-result c =
+pub invariant_of-result : goal.invariant_of-result
+invariant_of-result c =
     let e = c.args.self in
     let fx : SFits w32 c.args.self.x = search rules in
     let fy : SFits w32 c.args.self.y = search rules in

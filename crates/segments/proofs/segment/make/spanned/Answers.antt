@@ -13,8 +13,8 @@ gap-h-requires c =
     let b = and_parts (ranged c.args.x && ranged c.args.y) _ c.requires.field in
     simp to_z-of_z (record { to = (and_parts (ranged c.args.p) (ranged c.args.q) b.1).1; from = (and_parts (ranged c.args.x) (ranged c.args.y) b.0).1 })
 
-pub invariant-of-result : goal.invariant-of-result
-invariant-of-result c =
+pub invariant_of-result : goal.invariant_of-result
+invariant_of-result c =
     let fx : SFits w32 c.args.x = search rules in
     let fy : SFits w32 c.args.y = search rules in
     let fp : SFits w32 c.args.p = search rules in
@@ -23,14 +23,14 @@ invariant-of-result c =
     let fh : SFits w32 c.gap-h.result = search rules in
     let fdx : SFits w32 c.shared-dx.result = search rules in
     let fdy : SFits w32 c.shared-dy.result = search rules in
-    let n = c.edges-between-n.result in
-    let N : to_z w32 c.edges-between-n.result ≡ pos c.edges-between-n.result = to_z_pos w32 c.edges-between-n.result (omega (arith, c.edges-between-n.ensures.small)) in
+    let n = c.edges_between-n.result in
+    let N : to_z w32 c.edges_between-n.result ≡ pos c.edges_between-n.result = to_z_pos w32 c.edges_between-n.result (omega (arith, c.edges_between-n.ensures.small)) in
     let W : c.gap-w.result ≡ c.args.p -ℤ c.args.x = simp to_z-of_z at c.gap-w.ensures.value in
     let G : c.gap-h.result ≡ c.args.q -ℤ c.args.y = simp to_z-of_z at c.gap-h.ensures.value in
     let ex = simp to_z-of_z at c.shared-dx.ensures ∙ W in
     let ey = simp to_z-of_z at c.shared-dy.ensures ∙ G in
-    let g : n ≡ gcd (nat_abs (c.args.p -ℤ c.args.x)) (nat_abs (c.args.q -ℤ c.args.y)) = simp to_z-of_z at c.edges-between-n.ensures.value ∙ (λ i. gcd (nat_abs (W i)) (nat_abs (G i))) in
-    let s = spanned c.args.x c.args.y c.args.p c.args.q c.shared-dx.result c.shared-dy.result n c.requires.field c.requires.up c.edges-between-n.ensures.some g ex ey in
+    let g : n ≡ gcd (nat_abs (c.args.p -ℤ c.args.x)) (nat_abs (c.args.q -ℤ c.args.y)) = simp to_z-of_z at c.edges_between-n.ensures.value ∙ (λ i. gcd (nat_abs (W i)) (nat_abs (G i))) in
+    let s = spanned c.args.x c.args.y c.args.p c.args.q c.shared-dx.result c.shared-dy.result n c.requires.field c.requires.up c.edges_between-n.ensures.some g ex ey in
     let t = s.passes in
     simp (to_z-of_z, N) (t.proper, (t.some, (t.left, (t.low, (t.right, (t.high, tt))))))
 
@@ -44,14 +44,14 @@ returns c =
     let fh : SFits w32 c.gap-h.result = search rules in
     let fdx : SFits w32 c.shared-dx.result = search rules in
     let fdy : SFits w32 c.shared-dy.result = search rules in
-    let n = c.edges-between-n.result in
-    let N : to_z w32 c.edges-between-n.result ≡ pos c.edges-between-n.result = to_z_pos w32 c.edges-between-n.result (omega (arith, c.edges-between-n.ensures.small)) in
+    let n = c.edges_between-n.result in
+    let N : to_z w32 c.edges_between-n.result ≡ pos c.edges_between-n.result = to_z_pos w32 c.edges_between-n.result (omega (arith, c.edges_between-n.ensures.small)) in
     let W : c.gap-w.result ≡ c.args.p -ℤ c.args.x = simp to_z-of_z at c.gap-w.ensures.value in
     let G : c.gap-h.result ≡ c.args.q -ℤ c.args.y = simp to_z-of_z at c.gap-h.ensures.value in
     let ex = simp to_z-of_z at c.shared-dx.ensures ∙ W in
     let ey = simp to_z-of_z at c.shared-dy.ensures ∙ G in
-    let g : n ≡ gcd (nat_abs (c.args.p -ℤ c.args.x)) (nat_abs (c.args.q -ℤ c.args.y)) = simp to_z-of_z at c.edges-between-n.ensures.value ∙ (λ i. gcd (nat_abs (W i)) (nat_abs (G i))) in
-    let s = spanned c.args.x c.args.y c.args.p c.args.q c.shared-dx.result c.shared-dy.result n c.requires.field c.requires.up c.edges-between-n.ensures.some g ex ey in
+    let g : n ≡ gcd (nat_abs (c.args.p -ℤ c.args.x)) (nat_abs (c.args.q -ℤ c.args.y)) = simp to_z-of_z at c.edges_between-n.ensures.value ∙ (λ i. gcd (nat_abs (W i)) (nat_abs (G i))) in
+    let s = spanned c.args.x c.args.y c.args.p c.args.q c.shared-dx.result c.shared-dy.result n c.requires.field c.requires.up c.edges_between-n.ensures.some g ex ey in
     let X = to_z-of_z w32 c.args.x fx in
     let Y = to_z-of_z w32 c.args.y fy in
     let DX = to_z-of_z w32 c.shared-dx.result fdx in

@@ -29,20 +29,20 @@ offset-requires c =
     let e = c.args.self in
     let ff : SFits w32 c.args.from = search rules in
     let ft : SFits w32 c.args.to = search rules in
-    let t : Stretch segment_model c.args.self c.args.from c.args.to = simp to_z-of_z at (c.has-stretch.ensures.0 c.if-not-has-stretch.false) in
+    let t : Stretch segment_model c.args.self c.args.from c.args.to = simp to_z-of_z at (c.has_stretch.ensures.0 c.if-not-has_stretch.false) in
     let F = to_z-of_z w32 c.args.from ff in
     record { low = subst (λ (z : ℤ). starting e ≤ℤ z) (sym F) t.low; high = subst (λ (z : ℤ). z ≤ℤ ending e) (sym F) (through c.args.from c.args.to (ending e) t.some t.high) }
 
-pub overflow-sub-result : goal.overflow-sub-result
-overflow-sub-result c =
+pub overflow_sub-result : goal.overflow_sub-result
+overflow_sub-result c =
     let e = c.args.self in
     let ff : SFits w32 c.args.from = search rules in
     let ft : SFits w32 c.args.to = search rules in
-    let t : Stretch segment_model c.args.self c.args.from c.args.to = simp to_z-of_z at (c.has-stretch.ensures.0 c.if-not-has-stretch.false) in
+    let t : Stretch segment_model c.args.self c.args.from c.args.to = simp to_z-of_z at (c.has_stretch.ensures.0 c.if-not-has_stretch.false) in
     simp to_z-of_z (width e c.args.from c.args.to t)
 
-pub invariant-of-result : goal.invariant-of-result
-invariant-of-result c =
+pub invariant_of-result : goal.invariant_of-result
+invariant_of-result c =
     let e = c.args.self in
     let s = starting e in
     let from = c.args.from in
@@ -54,7 +54,7 @@ invariant-of-result c =
     let fy : SFits w32 c.nth-edge.result.y = search rules in
     let fdx : SFits w32 c.nth-edge.result.dx = search rules in
     let fdy : SFits w32 c.nth-edge.result.dy = search rules in
-    let t : Stretch segment_model c.args.self c.args.from c.args.to = simp to_z-of_z at (c.has-stretch.ensures.0 c.if-not-has-stretch.false) in
+    let t : Stretch segment_model c.args.self c.args.from c.args.to = simp to_z-of_z at (c.has_stretch.ensures.0 c.if-not-has_stretch.false) in
     let F = to_z-of_z w32 c.args.from ff in
     let V : to_z w32 (of_z w32 c.offset.result) ≡ from -ℤ s = to_z-of_z w32 c.offset.result fo ∙ c.offset.ensures.value ∙ (λ i. F i -ℤ s) in
     let A : c.nth-edge.result ≡ along (first e) (from -ℤ s) = c.nth-edge.ensures ∙ ap (along (first e)) V in
@@ -90,7 +90,7 @@ returns c =
     let fy : SFits w32 c.nth-edge.result.y = search rules in
     let fdx : SFits w32 c.nth-edge.result.dx = search rules in
     let fdy : SFits w32 c.nth-edge.result.dy = search rules in
-    let t : Stretch segment_model c.args.self c.args.from c.args.to = simp to_z-of_z at (c.has-stretch.ensures.0 c.if-not-has-stretch.false) in
+    let t : Stretch segment_model c.args.self c.args.from c.args.to = simp to_z-of_z at (c.has_stretch.ensures.0 c.if-not-has_stretch.false) in
     let F = to_z-of_z w32 c.args.from ff in
     let V : to_z w32 (of_z w32 c.offset.result) ≡ from -ℤ s = to_z-of_z w32 c.offset.result fo ∙ c.offset.ensures.value ∙ (λ i. F i -ℤ s) in
     let A : c.nth-edge.result ≡ along (first e) (from -ℤ s) = c.nth-edge.ensures ∙ ap (along (first e)) V in

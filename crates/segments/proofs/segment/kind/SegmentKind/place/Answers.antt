@@ -43,8 +43,8 @@ fitted-requires c =
       long = subst (λ (t : ℤ). nat_abs t ≤ 10000) (sym N) (size_edges e);
     }
 
-pub overflow-sub-dx : goal.overflow-sub-dx
-overflow-sub-dx c =
+pub overflow_sub-dx : goal.overflow_sub-dx
+overflow_sub-dx c =
     let e = c.args.self in
     let s = c.args.p.turn.index in
     let l = below_eight c.args.p.turn in
@@ -57,8 +57,8 @@ overflow-sub-dx c =
     let z = turned_sizes 4000 e.dx e.dy (size_dx e) (size_dy e) s l in
     back_fits (across s e.dx e.dy) _ z.0 P
 
-pub overflow-sub-dy : goal.overflow-sub-dy
-overflow-sub-dy c =
+pub overflow_sub-dy : goal.overflow_sub-dy
+overflow_sub-dy c =
     let e = c.args.self in
     let s = c.args.p.turn.index in
     let l = below_eight c.args.p.turn in
@@ -138,12 +138,12 @@ returns-else-forward c =
     let f : forward (across s e.dx e.dy) (upward s e.dx e.dy) ≡ false = (λ i. forward (sym P i) (sym Q i)) ∙ sym c.forward.ensures ∙ c.if-forward.false in
     let NP : to_z w64 (of_z w64 (pos 0 -ℤ to_z w64 (of_z w64 c.turned-dx.result.0))) ≡ neg_ℤ (across s e.dx e.dy) = to_z-of_z w64 _ (back_fits (across s e.dx e.dy) _ z.0 P) ∙ back (across s e.dx e.dy) _ P in
     let NQ : to_z w64 (of_z w64 (pos 0 -ℤ to_z w64 (of_z w64 c.turned-dx.result.1))) ≡ neg_ℤ (upward s e.dx e.dy) = to_z-of_z w64 _ (back_fits (upward s e.dx e.dy) _ z.1 Q) ∙ back (upward s e.dx e.dy) _ Q in
-    let fx : SFits w32 c.upper-upper-x.result.0 = search rules in
-    let fy : SFits w32 c.upper-upper-x.result.1 = search rules in
+    let fx : SFits w32 c.upper-upper_x.result.0 = search rules in
+    let fy : SFits w32 c.upper-upper_x.result.1 = search rules in
     let gx : SFits w64 c.moved-x-else-forward.result.0 = search rules in
     let gy : SFits w64 c.moved-x-else-forward.result.1 = search rules in
-    let U = c.upper-upper-x.ensures.across in
-    let V = c.upper-upper-x.ensures.up in
+    let U = c.upper-upper_x.ensures.across in
+    let V = c.upper-upper_x.ensures.up in
     let X = to_z-of_z w64 c.moved-x-else-forward.result.0 gx ∙ simp to_z-of_z at c.moved-x-else-forward.ensures.across ∙ (λ i. across s (U i) (V i) +ℤ c.args.p.across) in
     let Y = to_z-of_z w64 c.moved-x-else-forward.result.1 gy ∙ simp to_z-of_z at c.moved-x-else-forward.ensures.up ∙ (λ i. upward s (U i) (V i) +ℤ c.args.p.up) in
     c.fitted-else-forward.ensures ∙ (λ i. segment (X i) (Y i) (NP i) (NQ i) (N i)) ∙ sym (cond-false (forward (across s e.dx e.dy) (upward s e.dx e.dy)) _ _ f)

@@ -33,16 +33,16 @@ returns-then-image-to c = not_across c.args.turn.index c.args.from c.args.to (be
 pub returns-then-image-to-2 : goal.returns-then-image-to-2
 returns-then-image-to-2 c = not_up c.args.turn.index c.args.from c.args.to (below_eight c.args.turn) (λ h. c.if-image-to-2.true (ap (of_z w32) (ap (λ (a : Edge). a.dy) c.turned-image.ensures.value ∙ h)))
 
-pub overflow-sub-result : goal.overflow-sub-result
-overflow-sub-result c =
+pub overflow_sub-result : goal.overflow_sub-result
+overflow_sub-result c =
     let g : edge_field c.args.to ≡ true = sym c.lies.ensures ∙ c.if-not-lies.false in
     let t = edge_ends c.args.to g in
     let fa : SFits w32 c.args.to.x = search rules in
     let fb : SFits w32 c.turned-image.result.x = search rules in
     simp to_z-of_z (fits c.args.to.x c.turned-image.result.x t.left c.turned-image.ensures.left)
 
-pub overflow-sub-result-2 : goal.overflow-sub-result-2
-overflow-sub-result-2 c =
+pub overflow_sub-result-2 : goal.overflow_sub-result-2
+overflow_sub-result-2 c =
     let g : edge_field c.args.to ≡ true = sym c.lies.ensures ∙ c.if-not-lies.false in
     let t = edge_ends c.args.to g in
     let fa : SFits w32 c.args.to.x = search rules in
@@ -71,7 +71,7 @@ returns c =
     let fg : SFits w32 c.args.to.dy = search rules in
     let fh : SFits w32 c.turned-image.result.dy = search rules in
     let v = c.turned-image.ensures.value in
-    let h : ends_lie c.args.from ≡ true = sym c.ends-lie.ensures ∙ c.if-not-ends-lie.false in
+    let h : ends_lie c.args.from ≡ true = sym c.ends_lie.ensures ∙ c.if-not-ends_lie.false in
     let DX = ap (λ (a : Edge). a.dx) (sym v) ∙ same_bits c.turned-image.result.dx c.args.to.dx ff fe c.if-image-to.false in
     let DY = ap (λ (a : Edge). a.dy) (sym v) ∙ same_bits c.turned-image.result.dy c.args.to.dy fh fg c.if-image-to-2.false in
     let U = ap (λ (z : ℤ). to_z w32 (of_z w32 z)) (λ i. to_z-of_z w32 c.args.to.x fa i -ℤ to_z-of_z w32 c.turned-image.result.x fb i) ∙ to_z-of_z w32 (c.args.to.x -ℤ c.turned-image.result.x) (fits c.args.to.x c.turned-image.result.x t.left c.turned-image.ensures.left) ∙ ap (λ (a : Edge). c.args.to.x -ℤ a.x) v in
