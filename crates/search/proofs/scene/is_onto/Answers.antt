@@ -20,14 +20,14 @@ module _ {E A C : Type 0} (m : KindModel E A C) (r : Rules m) (left drawn : List
   gone : None ≡ m.place p e → Onto m left drawn p → ⊥
   gone s o = no_put m r p e drawn (sym s) (λ a k. o a (cover_at m left i e e a l is k))
 
-pub returns-then-not-lies-within : goal.returns-then-not-lies-within
-returns-then-not-lies-within g c = λ o. (λ k. absurd (false≢true k), λ h. absurd (lost g.K.Kind.model g.met.K.Kind.rules c.args.left.now c.args.drawn.now c.loop-e.e-index c.e-item.result (omega arith) c.e-item.is c.args.p c.in-Some.f c.in-Some.ensures (λ n. false≢true (sym c.if-not-lies-within.true ∙ (c.lies-within.ensures o).1 n)) h))
+pub returns-then-not-lies_within : goal.returns-then-not-lies_within
+returns-then-not-lies_within g c = λ o. (λ k. absurd (false≢true k), λ h. absurd (lost g.K.Kind.model g.met.K.Kind.rules c.args.left.now c.args.drawn.now c.loop-e.e-index c.e-item.result (omega arith) c.e-item.is c.args.p c.in-Some.f c.in-Some.ensures (λ n. false≢true (sym c.if-not-lies_within.true ∙ (c.lies_within.ensures o).1 n)) h))
 
 pub returns-in-None : goal.returns-in-None
 returns-in-None g c = λ o. (λ k. absurd (false≢true k), λ h. absurd (gone g.K.Kind.model g.met.K.Kind.rules c.args.left.now c.args.drawn.now c.loop-e.e-index c.e-item.result (omega arith) c.e-item.is c.args.p c.in-None.ensures h))
 
 pub loop-e-preserved : goal.loop-e-preserved
-loop-e-preserved g c = λ o. more g.K.Kind.model g.met.K.Kind.rules c.args.left.now c.args.drawn.now c.loop-e.e-index c.e-item.result (omega arith) c.e-item.is c.args.p c.in-Some.f c.in-Some.ensures ((c.lies-within.ensures o).0 c.if-not-lies-within.false) (c.loop-e.invariant o)
+loop-e-preserved g c = λ o. more g.K.Kind.model g.met.K.Kind.rules c.args.left.now c.args.drawn.now c.loop-e.e-index c.e-item.result (omega arith) c.e-item.is c.args.p c.in-Some.f c.in-Some.ensures ((c.lies_within.ensures o).0 c.if-not-lies_within.false) (c.loop-e.invariant o)
 
 pub returns : goal.returns
 returns g c = λ o. (λ k. subst (λ z. Onto g.K.Kind.model z c.args.drawn.now c.args.p) (take_all c.loop-e.e-index c.args.left.now (omega arith)) (c.loop-e.invariant o), λ h. refl)

@@ -11,16 +11,16 @@ returns g c =
     let r = g.met.K.Kind.rules in
     let s = c.args.sheet.now in
     let o = c.args.other.now in
-    let t = c.add-joining.new.sheet in
-    let first = c.add-joining.ensures in
-    let last = c.add-each.ensures in
+    let t = c.add_joining.new.sheet in
+    let first = c.add_joining.ensures in
+    let last = c.add_each.ensures in
     record {
       cases = record {
         sound = λ h. last.sound (first.sound h);
         covers = λ h k a.
             let begun = first.begun h k in
-            let fits : c.count-sum.result ≤ room s = omega arith in
-            last.covers (first.sound h) k (fits_after m r plus (sum_steps m r) o s t c.count-sum.result h k begun first.room (c.count-sum.ensures h k) fits) a ∙ begun.same a;
+            let fits : c.count_sum.result ≤ room s = omega arith in
+            last.covers (first.sound h) k (fits_after m r plus (sum_steps m r) o s t c.count_sum.result h k begun first.room (c.count_sum.ensures h k) fits) a ∙ begun.same a;
         room = last.room ∙ first.room;
       };
       lender = last.lender ∙ first.lender;

@@ -10,4 +10,4 @@ invariant-loop-e g l =
     (Sound g.K.Kind.model l.initial.sheet → Sound g.K.Kind.model l.sheet)
     × (room l.sheet ≡ room l.initial.sheet)
     × (Sound g.K.Kind.model l.initial.sheet → Sound g.K.Kind.model l.other → Fits g.K.Kind.model plus l.other l.initial.sheet → Same (covered g.K.Kind.model l.sheet) (by g.K.Kind.model plus (covered g.K.Kind.model l.initial.sheet) (cover g.K.Kind.model (take l.e-index l.e-items))))
-    × (l.sheet.slots.name ≡ l.initial.sheet.slots.name)
+    × (l.sheet.slots.ghost_name ≡ l.initial.sheet.slots.ghost_name)

@@ -17,9 +17,9 @@ loop-e-preserved g c =
     let s = c.args.sheet.now in
     let es = c.elements-e-items.result.now in
     let low = c.loop-e.invariant.0 in
-    let few = c.count-with.ensures.few in
-    let sum = c.saturating-add.ensures in
-    let less = c.saturating-sub-count.ensures in
+    let few = c.count_with.ensures.few in
+    let sum = c.saturating_add.ensures in
+    let less = c.saturating_sub-count.ensures in
     let n = c.count-before.ensures in (
       omega arith,
       λ h k.
@@ -29,9 +29,9 @@ loop-e-preserved g c =
           let i = c.loop-e-test.true in
           let a = length-take s.count s.slots.now in
           let b = length-take c.args.other.now.count c.args.other.now.slots.now in
-          let all : c.saturating-add.result ≡ c.loop-e.count + c.count-with.result = omega arith in
-          let next : c.saturating-sub-count.result ≡ c.loop-e.count + c.count-with.result - length (items s) = omega arith in
-          counted_more m r plus (sum_steps m r) es c.loop-e.e-index c.e-item.result i c.e-item.is (items s) c.loop-e.count c.count-with.result _ h.ordered (ap (canonical m) c.elements-e-items.ensures.value ∙ k.ordered) (c.loop-e.invariant.1 h k) (c.count-with.ensures.exact h) next,
+          let all : c.saturating_add.result ≡ c.loop-e.count + c.count_with.result = omega arith in
+          let next : c.saturating_sub-count.result ≡ c.loop-e.count + c.count_with.result - length (items s) = omega arith in
+          counted_more m r plus (sum_steps m r) es c.loop-e.e-index c.e-item.result i c.e-item.is (items s) c.loop-e.count c.count_with.result _ h.ordered (ap (canonical m) c.elements-e-items.ensures.value ∙ k.ordered) (c.loop-e.invariant.1 h k) (c.count_with.ensures.exact h) next,
     )
 
 pub returns : goal.returns

@@ -11,16 +11,16 @@ returns g c =
     let r = g.met.K.Kind.rules in
     let s = c.args.sheet.now in
     let o = c.args.other.now in
-    let t = c.remove-unsplit.new.sheet in
-    let first = c.remove-unsplit.ensures in
-    let last = c.remove-each.ensures in
+    let t = c.remove_unsplit.new.sheet in
+    let first = c.remove_unsplit.ensures in
+    let last = c.remove_each.ensures in
     record {
       cases = record {
         sound = λ h. last.sound (first.sound h);
         covers = λ h k a.
             let begun = first.begun h k in
-            let fits : c.count-difference.result ≤ room s = omega arith in
-            last.covers (first.sound h) k (fits_after m r minus (less_steps m r) o s t c.count-difference.result h k begun first.room (c.count-difference.ensures h k) fits) a ∙ begun.same a;
+            let fits : c.count_difference.result ≤ room s = omega arith in
+            last.covers (first.sound h) k (fits_after m r minus (less_steps m r) o s t c.count_difference.result h k begun first.room (c.count_difference.ensures h k) fits) a ∙ begun.same a;
         room = last.room ∙ first.room;
       };
       lender = last.lender ∙ first.lender;

@@ -6,7 +6,7 @@ use Rattle.sheet_sums.specs.Whole.{by, minus, Begun}
 use Rattle.sheet_sums.proofs.Operations.{less_steps}
 use Rattle.sheet_sums.proofs.Carried.{counts_one, kept_sound, kept_room, begun_none, begun_left, begun_more, begun_all}
 use Rattle.sheet_sums.proofs.whole.remove_unsplit.Goals as goal
-use Rattle.sheet_sums.proofs.whole.remove_unsplit.Goals.{then-count-without-count, else-count-without-count}
+use Rattle.sheet_sums.proofs.whole.remove_unsplit.Goals.{then-count_without-count, else-count_without-count}
 
 pub loop-e-init : goal.loop-e-init
 loop-e-init g c = (λ s. s, refl, λ s so. begun_none g.K.Kind.model g.met.K.Kind.rules minus (less_steps g.K.Kind.model g.met.K.Kind.rules) c.elements-e-items.result.now c.args.other.now c.args.sheet.now, refl)
@@ -22,18 +22,18 @@ loop-e-preserved g c =
     let x = c.e-item.result in
     let t = c.loop-e.sheet in
     let inv = c.loop-e.invariant in
-    let Next : Sheet g.row.K.Denot → Type 0 = λ u. (Sound m s → Sound m u) × (room u ≡ room s) × (Sound m s → Sound m o → Begun m minus (take (i + 1) es) o s u) × (u.slots.name ≡ s.slots.name) in
-    elim c.if-count-without-count.branch [
-      | then-count-without-count w ↦ subst Next (sym w.sheet-is) (
+    let Next : Sheet g.row.K.Denot → Type 0 = λ u. (Sound m s → Sound m u) × (room u ≡ room s) × (Sound m s → Sound m o → Begun m minus (take (i + 1) es) o s u) × (u.slots.ghost_name ≡ s.slots.ghost_name) in
+    elim c.if-count_without-count.branch [
+      | then-count_without-count w ↦ subst Next (sym w.sheet-is) (
         λ h. kept_sound m r (by m minus (covered m t) (covers m x)) t w.remove.new.self w.remove.result w.remove.ensures.cases (inv.0 h),
         kept_room m r (by m minus (covered m t) (covers m x)) t w.remove.new.self w.remove.result w.remove.ensures.cases ∙ inv.1,
-        λ h k. begun_more m r minus (less_steps m r) es i x c.loop-e-test.true c.e-item.is o s t w.remove.new.self w.remove.result _ c.elements-e-items.ensures.value k (inv.0 h) (inv.2 h k) (c.count-without.ensures.exact (inv.0 h)) (omega (arith, w.if-count-without-count.true, c.count.ensures)) w.remove.ensures.cases,
+        λ h k. begun_more m r minus (less_steps m r) es i x c.loop-e-test.true c.e-item.is o s t w.remove.new.self w.remove.result _ c.elements-e-items.ensures.value k (inv.0 h) (inv.2 h k) (c.count_without.ensures.exact (inv.0 h)) (omega (arith, w.if-count_without-count.true, c.count.ensures)) w.remove.ensures.cases,
         w.remove.ensures.lender ∙ inv.3,
       )
-      | else-count-without-count w ↦ subst Next (sym w.sheet-is) (
+      | else-count_without-count w ↦ subst Next (sym w.sheet-is) (
         inv.0,
         inv.1,
-        λ h k. begun_left m r minus (less_steps m r) es i x c.loop-e-test.true c.e-item.is o s t (inv.2 h k) (λ n d. let e = counts_one m r _ n _ d (c.count-without.ensures.exact (inv.0 h)) in omega (arith, w.if-count-without-count.false, c.count.ensures)),
+        λ h k. begun_left m r minus (less_steps m r) es i x c.loop-e-test.true c.e-item.is o s t (inv.2 h k) (λ n d. let e = counts_one m r _ n _ d (c.count_without.ensures.exact (inv.0 h)) in omega (arith, w.if-count_without-count.false, c.count.ensures)),
         inv.3,
       )
     ]

@@ -8,4 +8,4 @@ invariant-loop-e g l =
     (Sound g.K.Kind.model l.initial.sheet → Sound g.K.Kind.model l.sheet)
     × (room l.sheet ≡ room l.initial.sheet)
     × (Sound g.K.Kind.model l.initial.sheet → Sound g.K.Kind.model l.other → Begun g.K.Kind.model minus (take l.e-index l.e-items) l.other l.initial.sheet l.sheet)
-    × (l.sheet.slots.name ≡ l.initial.sheet.slots.name)
+    × (l.sheet.slots.ghost_name ≡ l.initial.sheet.slots.ghost_name)

@@ -9,7 +9,12 @@ pub invariant_of-self : goal.invariant_of-self
 invariant_of-self c =
     let v = c.rest-rest.ensures.value in
     let e = c.up_to_end-n.ensures.value ∙ ap line_length v in
-    (omega (arith, c.rest-rest.ensures.len), (c.args.self.now.short, (c.args.self.now.early, (c.args.self.now.counted ∙ ap (λ (k : ℕ). c.args.self.now.first + k) (sym (count_line _ _ _ e)), tt))))
+    record {
+      within = omega (arith, c.rest-rest.ensures.len);
+      short = c.args.self.now.short;
+      early = c.args.self.now.early;
+      counted = c.args.self.now.counted ∙ ap (λ (k : ℕ). c.args.self.now.first + k) (sym (count_line _ _ _ e));
+    }
 
 pub returns-then-n-rest : goal.returns-then-n-rest
 returns-then-n-rest c =
@@ -34,7 +39,12 @@ invariant_of-self-2 c =
     let v = c.rest-rest.ensures.value in
     let e = c.up_to_end-n.ensures.value ∙ ap line_length v in
     let l : c.up_to_end-n.result < length (rest c.args.self.now) = omega (arith, ap length v, c.up_to_end-n.ensures.within, c.if-n-rest.false) in
-    (omega (arith, c.rest-rest.ensures.len, ap length v), (c.args.self.now.short, (c.args.self.now.early, (omega (arith, c.args.self.now.counted, count_ended c.args.self.now.text.now c.args.self.now.at _ e l), tt))))
+    record {
+      within = omega (arith, c.rest-rest.ensures.len, ap length v);
+      short = c.args.self.now.short;
+      early = c.args.self.now.early;
+      counted = omega (arith, c.args.self.now.counted, count_ended c.args.self.now.text.now c.args.self.now.at _ e l);
+    }
 
 pub returns : goal.returns
 returns c =

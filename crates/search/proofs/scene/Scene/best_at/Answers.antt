@@ -11,17 +11,17 @@ use Rattle.search.proofs.Best.{improves_nothing, improves_tried}
 use Rattle.search.proofs.Searched.{At, no_atom, no_shifts, in_range, good_at, only_at}
 use Rattle.search.proofs.scene.Scene.best_at.Goals as goal
 
-pub returns-in-default : goal.returns-in-default
-returns-in-default g c =
+pub returns-in_default : goal.returns-in_default
+returns-in_default g c =
     let m = g.K.Kind.model in
-    let h : AtomAt m c.args.e.now c.args.at None = subst (λ (z : ℤ). AtomAt m c.args.e.now z None) (to_z-of_z w32 c.args.at c.ranges.at) c.in-default.ensures in
+    let h : AtomAt m c.args.e.now c.args.at None = subst (λ (z : ℤ). AtomAt m c.args.e.now z None) (to_z-of_z w32 c.args.at c.ranges.at) c.in_default.ensures in
     record { least = λ can ins. improves_nothing _ (bound c.args.after) c.args.best (no_atom m g.met.K.Kind.rules (Fits g.M.Kind.model g.C.Kind.model c.args.self.now) c.args.from c.args.turn c.args.e.now c.args.at h); later = λ a. a }
 
-pub returns-in-default-shifts : goal.returns-in-default-shifts
-returns-in-default-shifts g c =
+pub returns-in_default-shifts : goal.returns-in_default-shifts
+returns-in_default-shifts g c =
     let m = g.K.Kind.model in
     let h : AtomAt m c.args.e.now c.args.at (Some c.in-Some.to) = subst (λ (z : ℤ). AtomAt m c.args.e.now z (Some c.in-Some.to)) (to_z-of_z w32 c.args.at c.ranges.at) c.in-Some.ensures in
-    record { least = λ can ins. improves_nothing _ (bound c.args.after) c.args.best (no_shifts m g.met.K.Kind.rules (Fits g.M.Kind.model g.C.Kind.model c.args.self.now) c.args.from c.args.turn c.args.e.now c.args.at c.in-Some.to h.0 h.1 ins c.in-default-shifts.ensures); later = λ a. a }
+    record { least = λ can ins. improves_nothing _ (bound c.args.after) c.args.best (no_shifts m g.met.K.Kind.rules (Fits g.M.Kind.model g.C.Kind.model c.args.self.now) c.args.from c.args.turn c.args.e.now c.args.at c.in-Some.to h.0 h.1 ins c.in_default-shifts.ensures); later = λ a. a }
 
 pub returns-in-Some-shifted : goal.returns-in-Some-shifted
 returns-in-Some-shifted g c =

@@ -15,8 +15,8 @@ loop-at-init g c = (
 
 pub loop-at-preserved : goal.loop-at-preserved
 loop-at-preserved g c = (
-  λ can ins. under_more g.K.Kind.model g.met.K.Kind.rules (Fits g.M.Kind.model g.C.Kind.model c.args.self.now) c.args.from c.args.turn (bound c.args.after) c.args.best c.loop-at.found c.best-at-found.result c.args.e.now _ _ _ (omega (arith, ints)) (omega (arith, ints)) (c.loop-at.invariant.0 can ins) (c.best-at-found.ensures.least can ins),
-  λ a. c.best-at-found.ensures.later (c.loop-at.invariant.1 a),
+  λ can ins. under_more g.K.Kind.model g.met.K.Kind.rules (Fits g.M.Kind.model g.C.Kind.model c.args.self.now) c.args.from c.args.turn (bound c.args.after) c.args.best c.loop-at.found c.best_at-found.result c.args.e.now _ _ _ (omega (arith, ints)) (omega (arith, ints)) (c.loop-at.invariant.0 can ins) (c.best_at-found.ensures.least can ins),
+  λ a. c.best_at-found.ensures.later (c.loop-at.invariant.1 a),
 )
 
 pub returns : goal.returns

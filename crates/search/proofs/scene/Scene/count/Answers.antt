@@ -10,8 +10,8 @@ use Rattle.search.proofs.scene.Scene.count.Goals as goal
 pub loop-p-init : goal.loop-p-init
 loop-p-init g c = (boxed_first, omega arith, λ ps h. passed_none ps (pos 0) (pos 0))
 
-pub overflow-add-found : goal.overflow-add-found
-overflow-add-found g c =
+pub overflow_add-found : goal.overflow_add-found
+overflow_add-found g c =
     let a = c.loop-p.invariant.1 in
     let b = rank_high (bound c.loop-p.last) c.loop-p.invariant.0 in
     let f : c.loop-p.found + 1 < 4294967296 = omega arith in
@@ -35,4 +35,4 @@ loop-p-preserved g c =
     )
 
 pub returns : goal.returns
-returns g c = λ ps h. no_more g.M.Kind.model g.C.Kind.model (sought g.M.Kind.model g.C.Kind.model c.args.self.now) (drawn g.M.Kind.model g.C.Kind.model c.args.self.now) ps h.numbered (bound c.loop-p.last) c.loop-p.found (c.loop-p.invariant.2 ps h) (c.in-default.ensures.least h.sorted)
+returns g c = λ ps h. no_more g.M.Kind.model g.C.Kind.model (sought g.M.Kind.model g.C.Kind.model c.args.self.now) (drawn g.M.Kind.model g.C.Kind.model c.args.self.now) ps h.numbered (bound c.loop-p.last) c.loop-p.found (c.loop-p.invariant.2 ps h) (c.in_default.ensures.least h.sorted)

@@ -10,8 +10,8 @@ use Rattle.search.proofs.scene.Scene.first_of_turn.Goals as goal
 
 pub loop-x-preserved : goal.loop-x-preserved
 loop-x-preserved g c = (
-  λ can ins. list_more g.K.Kind.model g.met.K.Kind.rules (Fits g.M.Kind.model g.C.Kind.model c.args.self.now) c.args.from c.args.turn (bound c.args.after) c.loop-x.best c.best-on-best.result c.args.xs.now c.loop-x.x-index c.x-item.result (omega arith) c.x-item.is (c.loop-x.invariant.0 can ins) (c.best-on-best.ensures.least can ins),
-  c.best-on-best.ensures.later c.loop-x.invariant.1,
+  λ can ins. list_more g.K.Kind.model g.met.K.Kind.rules (Fits g.M.Kind.model g.C.Kind.model c.args.self.now) c.args.from c.args.turn (bound c.args.after) c.loop-x.best c.best_on-best.result c.args.xs.now c.loop-x.x-index c.x-item.result (omega arith) c.x-item.is (c.loop-x.invariant.0 can ins) (c.best_on-best.ensures.least can ins),
+  c.best_on-best.ensures.later c.loop-x.invariant.1,
 )
 
 pub returns : goal.returns

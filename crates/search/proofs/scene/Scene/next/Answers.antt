@@ -9,10 +9,10 @@ pub returns-in-Some : goal.returns-in-Some
 returns-in-Some g c =
     let h = c.in-Some.ensures in
     let w = covers_field g.M.Kind.model g.met.M.Kind.rules c.args.self.now.left_marks.now c.in-Some.from h in
-    record { least = λ can. by_marks g.M.Kind.model g.C.Kind.model c.args.self.now (bound c.args.after) _ c.in-Some.from h (c.first-of-all.ensures.least can w); later = c.first-of-all.ensures.later }
+    record { least = λ can. by_marks g.M.Kind.model g.C.Kind.model c.args.self.now (bound c.args.after) _ c.in-Some.from h (c.first_of_all.ensures.least can w); later = c.first_of_all.ensures.later }
 
-pub returns-in-Some-first-atom : goal.returns-in-Some-first-atom
-returns-in-Some-first-atom g c =
-    let h = c.in-Some-first-atom.ensures in
-    let w = covers_field g.C.Kind.model g.met.C.Kind.rules c.args.self.now.left_cuts.now c.in-Some-first-atom.from h in
-    record { least = λ can. by_cuts g.M.Kind.model g.C.Kind.model c.args.self.now (bound c.args.after) _ c.in-Some-first-atom.from h (c.first-of-all-in-Some-first-atom.ensures.least can w); later = c.first-of-all-in-Some-first-atom.ensures.later }
+pub returns-in-Some-first_atom : goal.returns-in-Some-first_atom
+returns-in-Some-first_atom g c =
+    let h = c.in-Some-first_atom.ensures in
+    let w = covers_field g.C.Kind.model g.met.C.Kind.rules c.args.self.now.left_cuts.now c.in-Some-first_atom.from h in
+    record { least = λ can. by_cuts g.M.Kind.model g.C.Kind.model c.args.self.now (bound c.args.after) _ c.in-Some-first_atom.from h (c.first_of_all-in-Some-first_atom.ensures.least can w); later = c.first_of_all-in-Some-first_atom.ensures.later }

@@ -11,8 +11,8 @@ use Rattle.search.proofs.scene.Scene.nth.Goals as goal
 pub loop-p-init : goal.loop-p-init
 loop-p-init g c = (boxed_first, omega arith, λ ps h. passed_none ps (pos 0) (pos 0), λ h. h)
 
-pub overflow-add-n : goal.overflow-add-n
-overflow-add-n g c =
+pub overflow_add-n : goal.overflow_add-n
+overflow_add-n g c =
     let a = c.loop-p.invariant.1 in
     let b = rank_high (bound c.loop-p.last) c.loop-p.invariant.0 in
     let f : c.loop-p.n + 1 < 4294967296 = omega arith in
@@ -40,4 +40,4 @@ pub returns-then-n-k : goal.returns-then-n-k
 returns-then-n-k g c = λ ps h. sym (subst (λ (z : ℕ). nth ps z ≡ Some c.in-Some.p) c.if-n-k.true (one_more g.M.Kind.model g.C.Kind.model (sought g.M.Kind.model g.C.Kind.model c.args.self.now) (drawn g.M.Kind.model g.C.Kind.model c.args.self.now) ps h.numbered (bound c.loop-p.last) c.loop-p.n (c.loop-p.invariant.2 ps h) c.in-Some.p (c.in-Some.ensures.least h.sorted)).0)
 
 pub returns : goal.returns
-returns g c = λ ps h. sym (number_none ps c.loop-p.n c.args.k (no_more g.M.Kind.model g.C.Kind.model (sought g.M.Kind.model g.C.Kind.model c.args.self.now) (drawn g.M.Kind.model g.C.Kind.model c.args.self.now) ps h.numbered (bound c.loop-p.last) c.loop-p.n (c.loop-p.invariant.2 ps h) (c.in-default.ensures.least h.sorted)) c.loop-p.invariant.3)
+returns g c = λ ps h. sym (number_none ps c.loop-p.n c.args.k (no_more g.M.Kind.model g.C.Kind.model (sought g.M.Kind.model g.C.Kind.model c.args.self.now) (drawn g.M.Kind.model g.C.Kind.model c.args.self.now) ps h.numbered (bound c.loop-p.last) c.loop-p.n (c.loop-p.invariant.2 ps h) (c.in_default.ensures.least h.sorted)) c.loop-p.invariant.3)

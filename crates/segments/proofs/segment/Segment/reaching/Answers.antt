@@ -35,22 +35,15 @@ invariant_of-result c =
     let DX = to_z-of_z w32 e.dx fdx in
     let DY = to_z-of_z w32 e.dy fdy in
     let fn : SFits w32 (c.args.to -ℤ edge_position (first e)) = fits (edge_position (first e)) c.args.to (start_low e) c.requires.some c.requires.small in
-    let N : to_z w32 (of_z w32 (to_z w32 (of_z w32 c.args.to) -ℤ to_z w32 (of_z w32 c.begins.result))) ≡ c.args.to -ℤ edge_position (first e) = ap (λ (z : ℤ). to_z w32 (of_z w32 z)) (λ i. to_z-of_z w32 c.args.to ft i -ℤ (to_z-of_z w32 c.begins.result fb ∙ c.begins.ensures.value) i) ∙ to_z-of_z w32 (c.args.to -ℤ edge_position (first e)) fn in (
-      (λ i. direction (DX i) (DY i)) ∙ e.proper,
-      (
-        ap (lt_z (pos 0)) N ∙ lt_test (pos 0) (c.args.to -ℤ edge_position (first e)) (above (edge_position (first e)) c.args.to c.requires.some),
-        (
-          ap ranged X ∙ e.left,
-          (
-            ap ranged Y ∙ e.low,
-            (
-              (λ i. ranged (X i +ℤ N i *ℤ DX i)) ∙ c.requires.right,
-              ((λ i. ranged (Y i +ℤ N i *ℤ DY i)) ∙ c.requires.high, tt),
-            ),
-          ),
-        ),
-      ),
-    )
+    let N : to_z w32 (of_z w32 (to_z w32 (of_z w32 c.args.to) -ℤ to_z w32 (of_z w32 c.begins.result))) ≡ c.args.to -ℤ edge_position (first e) = ap (λ (z : ℤ). to_z w32 (of_z w32 z)) (λ i. to_z-of_z w32 c.args.to ft i -ℤ (to_z-of_z w32 c.begins.result fb ∙ c.begins.ensures.value) i) ∙ to_z-of_z w32 (c.args.to -ℤ edge_position (first e)) fn in
+    record {
+      proper = (λ i. direction (DX i) (DY i)) ∙ e.proper;
+      some = ap (lt_z (pos 0)) N ∙ lt_test (pos 0) (c.args.to -ℤ edge_position (first e)) (above (edge_position (first e)) c.args.to c.requires.some);
+      left = ap ranged X ∙ e.left;
+      low = ap ranged Y ∙ e.low;
+      right = (λ i. ranged (X i +ℤ N i *ℤ DX i)) ∙ c.requires.right;
+      high = (λ i. ranged (Y i +ℤ N i *ℤ DY i)) ∙ c.requires.high;
+    }
 
 pub returns : goal.returns
 returns c =

@@ -125,7 +125,7 @@ invariant_of-result c =
     let gdy = narrow c.args.dy (up_to c.args.dy c.requires.tall) in
     let gn = narrow c.args.edges c.requires.long in
     let n = some_of c.args.edges (simp to_z-of_z at c.if-edges-le0.false) in
-    simp to_z-of_z (c.requires.way, (n, (x, (y, (r, (h, tt))))))
+    simp to_z-of_z (record { proper = c.requires.way; some = n; left = x; low = y; right = r; high = h })
 
 pub returns : goal.returns
 returns c =

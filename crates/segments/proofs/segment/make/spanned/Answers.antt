@@ -32,7 +32,7 @@ invariant_of-result c =
     let g : n ≡ gcd (nat_abs (c.args.p -ℤ c.args.x)) (nat_abs (c.args.q -ℤ c.args.y)) = simp to_z-of_z at c.edges_between-n.ensures.value ∙ (λ i. gcd (nat_abs (W i)) (nat_abs (G i))) in
     let s = spanned c.args.x c.args.y c.args.p c.args.q c.shared-dx.result c.shared-dy.result n c.requires.field c.requires.up c.edges_between-n.ensures.some g ex ey in
     let t = s.passes in
-    simp (to_z-of_z, N) (t.proper, (t.some, (t.left, (t.low, (t.right, (t.high, tt))))))
+    simp (to_z-of_z, N) (record { proper = t.proper; some = t.some; left = t.left; low = t.low; right = t.right; high = t.high })
 
 pub returns : goal.returns
 returns c =

@@ -63,19 +63,15 @@ invariant_of-result c =
     let DX = to_z-of_z w32 c.nth-edge.result.dx fdx ∙ ap (λ (a : Edge). a.dx) A in
     let DY = to_z-of_z w32 c.nth-edge.result.dy fdy ∙ ap (λ (a : Edge). a.dy) A in
     let N : to_z w32 (of_z w32 (to_z w32 (of_z w32 c.args.to) -ℤ to_z w32 (of_z w32 c.args.from))) ≡ to -ℤ from = ap (λ (z : ℤ). to_z w32 (of_z w32 z)) (λ i. to_z-of_z w32 c.args.to ft i -ℤ F i) ∙ to_z-of_z w32 (to -ℤ from) (width e from to t) in
-    let k = cut e from to t in (
-      (λ i. direction (DX i) (DY i)) ∙ e.proper,
-      (
-        ap (lt_z (pos 0)) N ∙ k.some,
-        (
-          ap ranged X ∙ k.from_x,
-          (
-            ap ranged Y ∙ k.from_y,
-            ((λ i. ranged (X i +ℤ N i *ℤ DX i)) ∙ k.to_x, ((λ i. ranged (Y i +ℤ N i *ℤ DY i)) ∙ k.to_y, tt)),
-          ),
-        ),
-      ),
-    )
+    let k = cut e from to t in
+    record {
+      proper = (λ i. direction (DX i) (DY i)) ∙ e.proper;
+      some = ap (lt_z (pos 0)) N ∙ k.some;
+      left = ap ranged X ∙ k.from_x;
+      low = ap ranged Y ∙ k.from_y;
+      right = (λ i. ranged (X i +ℤ N i *ℤ DX i)) ∙ k.to_x;
+      high = (λ i. ranged (Y i +ℤ N i *ℤ DY i)) ∙ k.to_y;
+    }
 
 pub returns : goal.returns
 returns c =
