@@ -1,5 +1,5 @@
 -- Sides of rules, when the latest is closed and when it grows.
-use Rattle.std.proofs.Common.{◌≡◌, ℕ, ◌-◌, List, [], ◌∷◌, ◌++◌, map, take, drop, sym, refl, ap, ◌∙◌, subst, arith, Bor}
+use Rattle.std.proofs.Common.{◌≡◌, ℕ, ◌-◌, List, [], ◌∷◌, ◌++◌, map, take, drop, sym, refl, ap, ◌∙◌, subst, arith, MutBor}
 use mathlib.Core.List.{map-append}
 use Rattle.std.specs.List.{AllByRecursion as All}
 use Rattle.kinds.specs.Model.{KindModel, covers}
@@ -96,8 +96,8 @@ module _ {EM AM CM EC Ac CC : Type 0} (M : KindModel EM AM CM) (C : KindModel EC
 
   pub side_closed : (ss : List SideRecord) (t u : SideTables EM EC) → KeptSide M C ss t → Closed t u → ClosedResult ss t u
   side_closed ss t u k h =
-      let p = ap (λ (r : Bor (List EM)). r.now) h.mark_slots in
-      let q = ap (λ (r : Bor (List EC)). r.now) h.cut_slots in
+      let p = ap (λ (r : MutBor (List EM)). r.now) h.mark_slots in
+      let q = ap (λ (r : MutBor (List EC)). r.now) h.cut_slots in
       let mz : u.marks.used - u.marks.from ≡ 0 = omega (arith, h.marks.0, h.marks.1) in
       let cz : u.cuts.used - u.cuts.from ≡ 0 = omega (arith, h.cuts.0, h.cuts.1) in
       let me = ap (λ (i : ℕ). take i (drop u.marks.from u.marks.slots.now)) mz in

@@ -4,10 +4,10 @@ use Rattle.rulebook.specs.declared.rulebook.SideTables.{SideTables}
 use Rattle.rulebook.proofs.Ruling.{right_half, grown, full, blank}
 use Rattle.rulebook.proofs.rulebook.Rulebook.right.Goals as goal
 
-pub returns-in-err-sum : goal.returns-in-err-sum
-returns-in-err-sum g c =
-    let p = err_from_is_err_and c.from-residual.result c.from-residual.ensures.1 in
-    let s = c.in-err-sum.ensures in
+pub returns-in_err-sum : goal.returns-in_err-sum
+returns-in_err-sum g c =
+    let p = err_from_is_err_and c.from_residual.result c.from_residual.ensures.1 in
+    let s = c.in_err-sum.ensures in
     let b = c.args.self.now in
     let last : b.count ≡ (b.count - 1) + 1 = omega (arith, c.if-n-eq0.false) in
     rw (p.1, p.2) record {
@@ -21,4 +21,4 @@ returns g c =
     let last : b.count ≡ (b.count - 1) + 1 = omega (arith, c.if-n-eq0.false) in
     grown g.M.Kind.model g.C.Kind.model (right_half g.M.Kind.model g.C.Kind.model) c.args.stroke b _ (b.count - 1) (get_or b.records (b.count - 1) blank) _
     record { last = last; within = search rules; default = blank; was = refl; is = refl; this = c.record-side.ensures; that = refl; count = refl; other = refl }
-    c.in-ok-sum.ensures
+    c.in_ok-sum.ensures

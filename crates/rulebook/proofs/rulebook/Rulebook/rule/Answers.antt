@@ -2,11 +2,11 @@ use Rattle.std.proofs.Common.{refl, rules}
 use Rattle.rulebook.proofs.Ruling.{added, no_more_rules}
 use Rattle.rulebook.proofs.rulebook.Rulebook.rule.Goals as goal
 
-pub returns-then-n-ge-MOST-RULES : goal.returns-then-n-ge-MOST-RULES
-returns-then-n-ge-MOST-RULES g c = record {
+pub returns-then-n-ge-MOST_RULES : goal.returns-then-n-ge-MOST_RULES
+returns-then-n-ge-MOST_RULES g c = record {
   number = refl;
   same = refl;
-  full = no_more_rules g.M.Kind.model g.C.Kind.model c.args.self.now c.if-n-ge-MOST-RULES.true;
+  full = no_more_rules g.M.Kind.model g.C.Kind.model c.args.self.now c.if-n-ge-MOST_RULES.true;
 }
 
 pub returns : goal.returns
