@@ -4,9 +4,9 @@ use Rattle.output.proofs.commands.write_natural_field.Goals as goal
 
 pub returns : goal.returns
 returns c =
-    let w = c.write-natural.ensures.written in
-    let e = c.write-natural.ensures.end in
+    let w = c.write_natural.ensures.written in
+    let e = c.write_natural.ensures.end in
     record {
       end = omega (arith, e, c.put-at.ensures.end);
-      written = wrote_then c.args.at c.put-at.result c.write-natural.result (32 ∷ []) (decimal c.args.n) c.args.out.now c.put-at.new.out c.write-natural.new.out c.put-at.ensures.end (omega (arith, e)) (omega (arith, e, c.put-at.ensures.end, c.requires)) c.put-at.ensures.written w;
+      written = wrote_then c.args.at c.put-at.result c.write_natural.result (32 ∷ []) (decimal c.args.n) c.args.out.now c.put-at.new.out c.write_natural.new.out c.put-at.ensures.end (omega (arith, e)) (omega (arith, e, c.put-at.ensures.end, c.requires)) c.put-at.ensures.written w;
     }

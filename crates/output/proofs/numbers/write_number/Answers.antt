@@ -6,10 +6,10 @@ use Rattle.output.proofs.numbers.write_number.Goals as goal
 pub returns : goal.returns
 returns c =
     let below : pos 0 ≤ℤ c.args.z → ⊥ = λ h. grind (arith, ints) in
-    let abs : c.unsigned-abs-size.result ≡ nat_abs c.args.z = search (rules, to_z-of_z, c.unsigned-abs-size.ensures.value) in
-    let is = neg_signed c.args.z c.unsigned-abs-size.result below abs in
+    let abs : c.unsigned_abs-size.result ≡ nat_abs c.args.z = search (rules, to_z-of_z, c.unsigned_abs-size.ensures.value) in
+    let is = neg_signed c.args.z c.unsigned_abs-size.result below abs in
     let l = ap length is in
     record {
       end = omega arith;
-      written = neg_written c.args.out.now c.write-natural-2.new.out _ c.args.at c.write-natural-2.result (decimal c.unsigned-abs-size.result) (omega arith) (omega arith) is c.write-natural-2.ensures.written;
+      written = neg_written c.args.out.now c.write_natural-2.new.out _ c.args.at c.write_natural-2.result (decimal c.unsigned_abs-size.result) (omega arith) (omega arith) is c.write_natural-2.ensures.written;
     }

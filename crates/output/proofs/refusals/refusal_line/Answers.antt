@@ -15,7 +15,7 @@ returns-then-size-out c =
     let n = c.number-number.result in
     let l = c.args.refused.line in
     let e = ap (λ (k : ℕ). length (text k l)) c.number-number.ensures in
-    (refl, omega (arith, e, size n l, c.natural-field-size.ensures.value, c.natural-field-size-2.ensures.value), refl)
+    (refl, omega (arith, e, size n l, c.natural_field_size.ensures.value, c.natural_field_size-2.ensures.value), refl)
 
 pub returns : goal.returns
 returns c =
@@ -24,12 +24,12 @@ returns c =
     let e = ap (λ (k : ℕ). length (text k l)) c.number-number.ensures in
     let s = size n l in
     let e1 = c.put-at.ensures.end in
-    let e2 = c.write-natural-field-at.ensures.end in
+    let e2 = c.write_natural_field-at.ensures.end in
     let e3 = c.put-at-2.ensures.end in
-    let e4 = c.write-natural-field-at-2.ensures.end in
+    let e4 = c.write_natural_field-at-2.ensures.end in
     let e5 = c.put.ensures.end in
-    let fits : c.put.result ≤ length c.args.out.now = omega (arith, e1, e2, e3, e4, e5, c.natural-field-size.ensures.value, c.natural-field-size-2.ensures.value) in
-    let w = wrote_three 0 c.put-at.result c.write-natural-field-at.result c.put-at-2.result c.write-natural-field-at-2.result c.put.result (codes "refused") (32 ∷ decimal n) (codes " line") (32 ∷ decimal l) (10 ∷ [])
-    c.args.out.now c.put-at.new.out c.write-natural-field-at.new.out c.put-at-2.new.out c.write-natural-field-at-2.new.out c.put.new.out fits
-    e1 c.put-at.ensures.written e2 c.write-natural-field-at.ensures.written e3 c.put-at-2.ensures.written e4 c.write-natural-field-at-2.ensures.written e5 c.put.ensures.written in
+    let fits : c.put.result ≤ length c.args.out.now = omega (arith, e1, e2, e3, e4, e5, c.natural_field_size.ensures.value, c.natural_field_size-2.ensures.value) in
+    let w = wrote_three 0 c.put-at.result c.write_natural_field-at.result c.put-at-2.result c.write_natural_field-at-2.result c.put.result (codes "refused") (32 ∷ decimal n) (codes " line") (32 ∷ decimal l) (10 ∷ [])
+    c.args.out.now c.put-at.new.out c.write_natural_field-at.new.out c.put-at-2.new.out c.write_natural_field-at-2.new.out c.put.new.out fits
+    e1 c.put-at.ensures.written e2 c.write_natural_field-at.ensures.written e3 c.put-at-2.ensures.written e4 c.write_natural_field-at-2.ensures.written e5 c.put.ensures.written in
     (omega (arith, e, s, e1, e2, e3, e4, e5), fits, w ∙ ap (λ (k : ℕ). text k l ++ drop c.put.result c.args.out.now) c.number-number.ensures)

@@ -5,17 +5,17 @@ use Rattle.std.proofs.lemmas.Int.{to_z-of_z}
 use Rattle.parsing.proofs.Making.{cut_refused, cut_made}
 use Rattle.parsing.proofs.strokes.cut.Goals as goal
 
-pub returns-in-err-segment : goal.returns-in-err-segment
-returns-in-err-segment c =
+pub returns-in_err-segment : goal.returns-in_err-segment
+returns-in_err-segment c =
     let fi = c.ranges.ink in
     let f1 = c.ranges.x1 in
     let f2 = c.ranges.y1 in
     let f3 = c.ranges.x2 in
     let f4 = c.ranges.y2 in
-    let p = err_from_is_err_and c.from-residual.result c.from-residual.ensures.1 in
-    let made = simp to_z-of_z at c.in-err-segment.ensures in
-    let ink = simp to_z-of_z at c.is-ink.ensures in
-    let ok : inks c.args.ink ≡ true = sym ink ∙ c.if-not-is-ink.false in
+    let p = err_from_is_err_and c.from_residual.result c.from_residual.ensures.1 in
+    let made = simp to_z-of_z at c.in_err-segment.ensures in
+    let ink = simp to_z-of_z at c.is_ink.ensures in
+    let ok : inks c.args.ink ≡ true = sym ink ∙ c.if-not-is_ink.false in
     rw (p.1, p.2) (cut_refused c.args.ink c.args.x1 c.args.y1 c.args.x2 c.args.y2 _ ok made)
 
 pub returns : goal.returns
@@ -25,8 +25,8 @@ returns c =
     let f2 = c.ranges.y1 in
     let f3 = c.ranges.x2 in
     let f4 = c.ranges.y2 in
-    let made = simp to_z-of_z at c.in-ok-segment.ensures in
+    let made = simp to_z-of_z at c.in_ok-segment.ensures in
     let inked = simp to_z-of_z at c.new-2.ensures in
-    let ink = simp to_z-of_z at c.is-ink.ensures in
-    let ok : inks c.args.ink ≡ true = sym ink ∙ c.if-not-is-ink.false in
-    cut_made c.args.ink c.args.x1 c.args.y1 c.args.x2 c.args.y2 c.in-ok-segment.segment _ ok made inked
+    let ink = simp to_z-of_z at c.is_ink.ensures in
+    let ok : inks c.args.ink ≡ true = sym ink ∙ c.if-not-is_ink.false in
+    cut_made c.args.ink c.args.x1 c.args.y1 c.args.x2 c.args.y2 c.in_ok-segment.segment _ ok made inked

@@ -6,5 +6,5 @@ use Rattle.parsing.proofs.strokes.read_step.Goals as goal
 
 pub returns-in-err-read-pick : goal.returns-in-err-read-pick
 returns-in-err-read-pick c =
-    let p = err_from_is_err_and c.from-residual.result c.from-residual.ensures.1 in
-    rw (p.1, p.2) (pick_fault _ _ _ c.in-Some.ensures (λ u. true≢false (sym (c.if-is-undo.ensures.1 u))) c.in-err-read-pick.ensures)
+    let p = err_from_is_err_and c.from_residual.result c.from_residual.ensures.1 in
+    rw (p.1, p.2) (pick_fault _ _ _ c.in-Some.ensures (λ u. true≢false (sym (c.if-is_undo.ensures.1 u))) c.in-err-read-pick.ensures)

@@ -2,12 +2,12 @@ use Rattle.std.proofs.lemmas.Result.{err_from_is_err_and}
 use Rattle.parsing.proofs.Stroking.{mark_fault, cut_fault}
 use Rattle.parsing.proofs.strokes.read_stroke.Goals as goal
 
-pub returns-in-err-read-mark : goal.returns-in-err-read-mark
-returns-in-err-read-mark c =
-    let p = err_from_is_err_and c.from-residual.result c.from-residual.ensures.1 in
-    rw (p.1, p.2) (mark_fault _ _ _ c.in-Some.ensures c.in-err-read-mark.ensures)
+pub returns-in_err-read_mark : goal.returns-in_err-read_mark
+returns-in_err-read_mark c =
+    let p = err_from_is_err_and c.from_residual.result c.from_residual.ensures.1 in
+    rw (p.1, p.2) (mark_fault _ _ _ c.in-Some.ensures c.in_err-read_mark.ensures)
 
-pub returns-in-err-read-cut : goal.returns-in-err-read-cut
-returns-in-err-read-cut c =
-    let p = err_from_is_err_and c.from-residual-in-err-read-cut.result c.from-residual-in-err-read-cut.ensures.1 in
-    rw (p.1, p.2) (cut_fault _ _ _ c.in-Some-after-cut.ensures c.in-err-read-cut.ensures)
+pub returns-in_err-read_cut : goal.returns-in_err-read_cut
+returns-in_err-read_cut c =
+    let p = err_from_is_err_and c.from_residual-in_err-read_cut.result c.from_residual-in_err-read_cut.ensures.1 in
+    rw (p.1, p.2) (cut_fault _ _ _ c.in-Some-after_cut.ensures c.in_err-read_cut.ensures)

@@ -6,8 +6,8 @@ use Rattle.drawing.proofs.drawing.Drawing.apply.Goals as goal
 
 pub returns-in-Some : goal.returns-in-Some
 returns-in-Some g c = record {
-  goes = pick_named g.M.Kind.model g.C.Kind.model g.met.M.Kind.rules g.met.C.Kind.rules c.args.self.now c.apply-found.new.self _ c.in-Some.found c.args.p _ c.args.rule (to_z-of_z c.ranges.rule) c.apply-found.ensures.goes c.in-Some.ensures;
-  kept = c.apply-found.ensures.kept;
+  goes = pick_named g.M.Kind.model g.C.Kind.model g.met.M.Kind.rules g.met.C.Kind.rules c.args.self.now c.apply_found.new.self _ c.in-Some.found c.args.p _ c.args.rule (to_z-of_z c.ranges.rule) c.apply_found.ensures.goes c.in-Some.ensures;
+  kept = c.apply_found.ensures.kept;
 }
 
 pub returns-in-None : goal.returns-in-None

@@ -23,9 +23,9 @@ module _ {EM AM CM EC Ac CC : Type 0} (M : KindModel EM AM CM) (C : KindModel EC
 
 pub returns : goal.returns
 returns g c =
-    let m = c.in-ok-marks.ensures in
-    let k = c.in-ok-cuts.ensures in
-    let sm = c.in-ok-start-marks.ensures in
-    let sk = c.in-ok-start-cuts.ensures in
-    let d : Drawing g.row.M.Denot g.row.C.Denot = record { book = c.args.book; marks = c.in-ok-marks.marks; cuts = c.in-ok-cuts.cuts; start_marks = c.in-ok-start-marks.start_marks; start_cuts = c.in-ok-start-cuts.start_cuts; steps = c.args.steps; step_count = 0 } in
-    begins g.M.Kind.model g.C.Kind.model g.met.M.Kind.rules g.met.C.Kind.rules d _ _ _ _ _ refl refl c.if-steps-gt-MOST-STEPS.false c.if-start-marks-marks.false c.if-start-cuts-cuts.false m.0 m.1 m.2 k.0 k.1 k.2 sm.1 sm.2 sk.1 sk.2
+    let m = c.in_ok-marks.ensures in
+    let k = c.in_ok-cuts.ensures in
+    let sm = c.in_ok-start_marks.ensures in
+    let sk = c.in_ok-start_cuts.ensures in
+    let d : Drawing g.row.M.Denot g.row.C.Denot = record { book = c.args.book; marks = c.in_ok-marks.marks; cuts = c.in_ok-cuts.cuts; start_marks = c.in_ok-start_marks.start_marks; start_cuts = c.in_ok-start_cuts.start_cuts; steps = c.args.steps; step_count = 0 } in
+    begins g.M.Kind.model g.C.Kind.model g.met.M.Kind.rules g.met.C.Kind.rules d _ _ _ _ _ refl refl c.if-steps-gt-MOST_STEPS.false c.if-start_marks-marks.false c.if-start_cuts-cuts.false m.0 m.1 m.2 k.0 k.1 k.2 sm.1 sm.2 sk.1 sk.2

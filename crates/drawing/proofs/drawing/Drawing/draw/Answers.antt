@@ -19,8 +19,8 @@ returns-in-Mark g c =
     let n : 0 < length (taken d) → ⊥ = λ h. omega (arith, c.recorded.ensures.value, c.if-recorded-gt0.false) in
     let e = c.in-Mark.e in
     record {
-      goes = mark_goes M C g.met.M.Kind.rules g.met.C.Kind.rules d (draw_mark e) n (plus M e) (on_draw_mark M C g.met.M.Kind.rules g.met.C.Kind.rules e) (drawing_call c.args.stroke) c.draw-both.result c.draw-both.new.sheet c.draw-both.new.start (ap drawing_call c.in-Mark.is) c.draw-both.ensures;
-      kept = mark_kept M C g.met.M.Kind.rules g.met.C.Kind.rules d (draw_mark e) n (plus M e) (on_draw_mark M C g.met.M.Kind.rules g.met.C.Kind.rules e) c.draw-both.result c.draw-both.new.sheet c.draw-both.new.start c.draw-both.ensures;
+      goes = mark_goes M C g.met.M.Kind.rules g.met.C.Kind.rules d (draw_mark e) n (plus M e) (on_draw_mark M C g.met.M.Kind.rules g.met.C.Kind.rules e) (drawing_call c.args.stroke) c.draw_both.result c.draw_both.new.sheet c.draw_both.new.start (ap drawing_call c.in-Mark.is) c.draw_both.ensures;
+      kept = mark_kept M C g.met.M.Kind.rules g.met.C.Kind.rules d (draw_mark e) n (plus M e) (on_draw_mark M C g.met.M.Kind.rules g.met.C.Kind.rules e) c.draw_both.result c.draw_both.new.sheet c.draw_both.new.start c.draw_both.ensures;
     }
 
 pub returns-in-Cut : goal.returns-in-Cut
@@ -31,6 +31,6 @@ returns-in-Cut g c =
     let n : 0 < length (taken d) → ⊥ = λ h. omega (arith, c.recorded.ensures.value, c.if-recorded-gt0.false) in
     let e = c.in-Cut.e in
     record {
-      goes = cut_goes M C g.met.M.Kind.rules g.met.C.Kind.rules d (draw_cut e) n (plus C e) (on_draw_cut M C g.met.M.Kind.rules g.met.C.Kind.rules e) (drawing_call c.args.stroke) c.draw-both-in-Cut.result c.draw-both-in-Cut.new.sheet c.draw-both-in-Cut.new.start (ap drawing_call c.in-Cut.is) c.draw-both-in-Cut.ensures;
-      kept = cut_kept M C g.met.M.Kind.rules g.met.C.Kind.rules d (draw_cut e) n (plus C e) (on_draw_cut M C g.met.M.Kind.rules g.met.C.Kind.rules e) c.draw-both-in-Cut.result c.draw-both-in-Cut.new.sheet c.draw-both-in-Cut.new.start c.draw-both-in-Cut.ensures;
+      goes = cut_goes M C g.met.M.Kind.rules g.met.C.Kind.rules d (draw_cut e) n (plus C e) (on_draw_cut M C g.met.M.Kind.rules g.met.C.Kind.rules e) (drawing_call c.args.stroke) c.draw_both-in-Cut.result c.draw_both-in-Cut.new.sheet c.draw_both-in-Cut.new.start (ap drawing_call c.in-Cut.is) c.draw_both-in-Cut.ensures;
+      kept = cut_kept M C g.met.M.Kind.rules g.met.C.Kind.rules d (draw_cut e) n (plus C e) (on_draw_cut M C g.met.M.Kind.rules g.met.C.Kind.rules e) c.draw_both-in-Cut.result c.draw_both-in-Cut.new.sheet c.draw_both-in-Cut.new.start c.draw_both-in-Cut.ensures;
     }

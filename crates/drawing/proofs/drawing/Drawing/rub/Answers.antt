@@ -19,8 +19,8 @@ returns-in-Mark g c =
     let n : 0 < length (taken d) → ⊥ = λ h. omega (arith, c.recorded.ensures.value, c.if-recorded-gt0.false) in
     let e = c.in-Mark.e in
     record {
-      goes = mark_goes M C g.met.M.Kind.rules g.met.C.Kind.rules d (rub_mark e) n (minus M e) (on_rub_mark M C g.met.M.Kind.rules g.met.C.Kind.rules e) (rubbing_call c.args.stroke) c.rub-both.result c.rub-both.new.sheet c.rub-both.new.start (ap rubbing_call c.in-Mark.is) c.rub-both.ensures;
-      kept = mark_kept M C g.met.M.Kind.rules g.met.C.Kind.rules d (rub_mark e) n (minus M e) (on_rub_mark M C g.met.M.Kind.rules g.met.C.Kind.rules e) c.rub-both.result c.rub-both.new.sheet c.rub-both.new.start c.rub-both.ensures;
+      goes = mark_goes M C g.met.M.Kind.rules g.met.C.Kind.rules d (rub_mark e) n (minus M e) (on_rub_mark M C g.met.M.Kind.rules g.met.C.Kind.rules e) (rubbing_call c.args.stroke) c.rub_both.result c.rub_both.new.sheet c.rub_both.new.start (ap rubbing_call c.in-Mark.is) c.rub_both.ensures;
+      kept = mark_kept M C g.met.M.Kind.rules g.met.C.Kind.rules d (rub_mark e) n (minus M e) (on_rub_mark M C g.met.M.Kind.rules g.met.C.Kind.rules e) c.rub_both.result c.rub_both.new.sheet c.rub_both.new.start c.rub_both.ensures;
     }
 
 pub returns-in-Cut : goal.returns-in-Cut
@@ -31,6 +31,6 @@ returns-in-Cut g c =
     let n : 0 < length (taken d) → ⊥ = λ h. omega (arith, c.recorded.ensures.value, c.if-recorded-gt0.false) in
     let e = c.in-Cut.e in
     record {
-      goes = cut_goes M C g.met.M.Kind.rules g.met.C.Kind.rules d (rub_cut e) n (minus C e) (on_rub_cut M C g.met.M.Kind.rules g.met.C.Kind.rules e) (rubbing_call c.args.stroke) c.rub-both-in-Cut.result c.rub-both-in-Cut.new.sheet c.rub-both-in-Cut.new.start (ap rubbing_call c.in-Cut.is) c.rub-both-in-Cut.ensures;
-      kept = cut_kept M C g.met.M.Kind.rules g.met.C.Kind.rules d (rub_cut e) n (minus C e) (on_rub_cut M C g.met.M.Kind.rules g.met.C.Kind.rules e) c.rub-both-in-Cut.result c.rub-both-in-Cut.new.sheet c.rub-both-in-Cut.new.start c.rub-both-in-Cut.ensures;
+      goes = cut_goes M C g.met.M.Kind.rules g.met.C.Kind.rules d (rub_cut e) n (minus C e) (on_rub_cut M C g.met.M.Kind.rules g.met.C.Kind.rules e) (rubbing_call c.args.stroke) c.rub_both-in-Cut.result c.rub_both-in-Cut.new.sheet c.rub_both-in-Cut.new.start (ap rubbing_call c.in-Cut.is) c.rub_both-in-Cut.ensures;
+      kept = cut_kept M C g.met.M.Kind.rules g.met.C.Kind.rules d (rub_cut e) n (minus C e) (on_rub_cut M C g.met.M.Kind.rules g.met.C.Kind.rules e) c.rub_both-in-Cut.result c.rub_both-in-Cut.new.sheet c.rub_both-in-Cut.new.start c.rub_both-in-Cut.ensures;
     }

@@ -14,8 +14,8 @@ returns g c =
     record {
       goes = undo_done g.M.Kind.model g.C.Kind.model g.met.M.Kind.rules g.met.C.Kind.rules d _ c.replay.new.self c.recorded-n.result c.recorded-n.ensures.value (λ h. omega arith)
           refl refl refl refl refl
-          (copied_room g.M.Kind.model c.copy-from.result d.start_marks d.marks c.copy-from.new.self c.copy-from.ensures.cases) (copied_room g.C.Kind.model c.copy-from-2.result d.start_cuts d.cuts c.copy-from-2.new.self c.copy-from-2.ensures.cases)
-          (copied_items g.M.Kind.model c.copy-from.result d.start_marks d.marks c.copy-from.new.self c.copy-from.ensures.cases) (copied_items g.C.Kind.model c.copy-from-2.result d.start_cuts d.cuts c.copy-from-2.new.self c.copy-from-2.ensures.cases)
+          (copied_room g.M.Kind.model c.copy_from.result d.start_marks d.marks c.copy_from.new.self c.copy_from.ensures.cases) (copied_room g.C.Kind.model c.copy_from-2.result d.start_cuts d.cuts c.copy_from-2.new.self c.copy_from-2.ensures.cases)
+          (copied_items g.M.Kind.model c.copy_from.result d.start_marks d.marks c.copy_from.new.self c.copy_from.ensures.cases) (copied_items g.C.Kind.model c.copy_from-2.result d.start_cuts d.cuts c.copy_from-2.new.self c.copy_from-2.ensures.cases)
           c.replay.ensures;
       kept = tt;
     }
