@@ -10,7 +10,7 @@ use lattice::refusal::Refusal;
 
 // How many of `room` bytes are left behind the lines of the elements, if they fit.
 fn room_after<T: Inscribed>(xs: &[T], room: usize) -> Option<usize>
-    ensures { MatchOption result (room < length (Lines line xs.now)) (λ n. n + length (Lines line xs.now) ≡ room) }
+    ensures { MatchOption result (room < length (Lines T.line xs.now)) (λ n. n + length (Lines T.line xs.now) ≡ room) }
 {
     let mut left = room;
     for x in xs {
@@ -25,9 +25,9 @@ fn room_after<T: Inscribed>(xs: &[T], room: usize) -> Option<usize>
 
 // Writes the lines of the elements at a place where they fit, and answers where they end.
 fn write_lines<T: Inscribed>(xs: &[T], out: &mut [u8], from: usize) -> usize
-    requires { from + length (Lines line xs.now) ≤ length out.old }
-    ensures end { result ≡ from + length (Lines line xs.now) }
-    ensures written { Wrote from result (Lines line xs.now) out.old out.new }
+    requires { from + length (Lines T.line xs.now) ≤ length out.old }
+    ensures end { result ≡ from + length (Lines T.line xs.now) }
+    ensures written { Wrote from result (Lines T.line xs.now) out.old out.new }
 {
     let mut at = from;
     for x in xs {
