@@ -10,8 +10,8 @@ returns-then-n-lt10 t c =
     let l = one_length c.args.n c.if-n-lt10.true in
     record { end = omega arith; written = one_written c.args.out.now c.args.at c.args.n (omega arith) c.if-n-lt10.true }
 
-pub write-natural-end-requires : goal.write-natural-end-requires
-write-natural-end-requires t c =
+pub write_natural-end-requires : goal.write_natural-end-requires
+write_natural-end-requires t c =
     let w : c.args.n < 2 ^ 32 = search rules in
     let l = more_length c.args.n c.if-n-lt10.false w in
     (search rules, omega arith)
@@ -22,8 +22,8 @@ bounds-out-end t c =
     let l = more_length c.args.n c.if-n-lt10.false w in
     omega arith
 
-pub overflow-add-result-2 : goal.overflow-add-result-2
-overflow-add-result-2 t c =
+pub overflow_add-result-2 : goal.overflow_add-result-2
+overflow_add-result-2 t c =
     let w : c.args.n < 2 ^ 32 = search rules in
     let l = more_length c.args.n c.if-n-lt10.false w in
     omega arith
@@ -32,4 +32,4 @@ pub returns : goal.returns
 returns t c =
     let w : c.args.n < 2 ^ 32 = search rules in
     let l = more_length c.args.n c.if-n-lt10.false w in
-    record { end = omega arith; written = more_written c.args.out.now c.write-natural-end.new.out c.args.at c.write-natural-end.result c.args.n c.if-n-lt10.false w c.write-natural-end.ensures.end (omega arith) c.write-natural-end.ensures.written }
+    record { end = omega arith; written = more_written c.args.out.now c.write_natural-end.new.out c.args.at c.write_natural-end.result c.args.n c.if-n-lt10.false w c.write_natural-end.ensures.end (omega arith) c.write_natural-end.ensures.written }
