@@ -11,7 +11,7 @@ use Rattle.kinds.specs.Rules.{Rules}
 use Rattle.elements.specs.Inks.{inked, ink_model}
 use Rattle.elements.specs.Points.{point_model}
 use Rattle.elements.specs.InkRules.{ink_rules}
-use Rattle.elements.specs.PointRules.{only, point_rules}
+use Rattle.elements.specs.PointRules.{point_rules}
 use Rattle.segments.specs.Directions.{forward}
 use Rattle.segments.specs.Edges.{edge, between}
 use Rattle.segments.specs.Segments.{segment_model}

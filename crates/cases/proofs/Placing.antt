@@ -17,7 +17,6 @@ use Rattle.grammar.proofs.Numbers.{none_some, Mem, mem_cons}
 use Rattle.grammar.proofs.Placements.{turn_below}
 use Rattle.grammar.proofs.Tests.{or_not}
 use Rattle.cases.specs.Cases.{rest}
-use Rattle.cases.specs.Figures.{marks, cuts}
 use Rattle.cases.proofs.Pieces.{whole, pieces_of, piece_of, piece_covered}
 use Rattle.cases.proofs.Tests.{every, some, every_one, some_one_of, equal_z, equal_z_from, before, before_from, all_pass}
 

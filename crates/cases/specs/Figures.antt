@@ -15,7 +15,6 @@ use Rattle.segments.specs.declared.segment.Edge.{Edge}
 use Rattle.segments.specs.Segments.{segment_model, segment}
 use Rattle.grammar.specs.Rules.{Side, Rule}
 use Rattle.grammar.specs.Calls.{Event, stroke, draw_mark, draw_cut, rub_cut, pick, undo, count, refused, done, counted}
-use Rattle.grammar.specs.Record.{Step}
 use Rattle.grammar.specs.State.{Setting, State}
 
 -- an inked point, and an inked segment

@@ -1,7 +1,7 @@
 -- What a line of a body is: the command whose text it is, or its fault. The faults rank 4, 5, 6, 7, and each is told of
 -- the whole line: that it has not the form of a command, that a field of it is no number, that a number is out of range,
 -- that the ends of a segment are equal.
-use Rattle.std.specs.Prelude.{◌≡◌, ℕ, Bool, true, false, ◌&&◌, ◌⊎◌, List, [], ◌∷◌, ◌++◌, length, ℤ, pos, Ok, Err, codes, Result, ◌≢◌}
+use Rattle.std.specs.Prelude.{◌≡◌, ℕ, Bool, true, false, ◌&&◌, ◌⊎◌, List, [], ◌∷◌, ◌++◌, length, ℤ, Ok, Err, codes, Result, ◌≢◌}
 use Rattle.std.specs.List.{AllByRecursion as All}
 use Rattle.lattice.specs.Field.{ranged}
 use Rattle.lattice.specs.Refusals.{number}

@@ -1,12 +1,10 @@
 -- Commands as text.
-use Rattle.std.specs.Prelude.{ℕ, List, [], ◌∷◌, ◌++◌, pos, codes}
+use Rattle.std.specs.Prelude.{ℕ, List, [], ◌∷◌, pos, codes}
 use Rattle.elements.specs.declared.ink.Ink.{Ink}
 use Rattle.elements.specs.declared.point.Point.{Point}
 use Rattle.segments.specs.Segments.{upper_x, upper_y}
 use Rattle.segments.specs.declared.segment.Segment.{Segment}
 use Rattle.notation.specs.Commands.{command}
-use Rattle.rulebook.specs.declared.stroke.Stroke.{Stroke}
-use Rattle.rulebook.specs.declared.stroke.Stroke.TheVariants.{Mark, Cut}
 use Rattle.commands.specs.declared.Pick.{Pick}
 
 -- `mark I X Y`

@@ -1,18 +1,18 @@
 -- What is asked of a drawing is answered by the list of places.
-use Rattle.std.proofs.Common.{◌≡◌, ℕ, ◌<◌, ◌≤◌, Bool, true, false, ◌||◌, ◌⊎◌, List, [], ◌∷◌, ◌++◌, length, drop, ℤ, Some, None, Ok, Err, Option, Result, sym, refl, ap, ◌∙◌, subst, inl, inr, arith, MatchResult}
+use Rattle.std.proofs.Common.{◌≡◌, ℕ, ◌<◌, ◌≤◌, Bool, true, ◌||◌, ◌⊎◌, List, [], ◌∷◌, ◌++◌, length, drop, ℤ, Some, None, Ok, Err, Option, Result, sym, refl, ap, ◌∙◌, subst, inl, inr, arith, MatchResult}
 use Rattle.lattice.specs.Order.{Triple}
 use Rattle.lattice.specs.Refusals.{number}
 use Rattle.lattice.specs.declared.placement.Placement.{Placement}
 use Rattle.lattice.specs.declared.refusal.Refusal.{Refusal}
 use Rattle.lattice.specs.declared.refusal.Refusal.TheVariants.{NoSuchRule, EmptyLeft as EmptyLeftSide}
-use Rattle.kinds.specs.Model.{KindModel, covers}
+use Rattle.kinds.specs.Model.{KindModel}
 use Rattle.kinds.specs.Rules.{Rules}
 use Rattle.sheets.specs.Cover.{cover, canonical}
 use Rattle.grammar.specs.Calls.{pick, count, next, list, refused, counted, next_is, listed, Event}
 use Rattle.grammar.specs.Numbers.{nth, ordinal}
 use Rattle.grammar.specs.Places.{Numbered, Listed, Least}
 use Rattle.grammar.specs.Refusals.{NoRule, EmptyLeft}
-use Rattle.grammar.specs.Rules.{Rule, Side, side, Filled}
+use Rattle.grammar.specs.Rules.{Rule, side, Filled}
 use Rattle.grammar.specs.Sets.{Sets}
 use Rattle.grammar.specs.State.{Setting, covered}
 use Rattle.grammar.proofs.Exists.{numbered}
@@ -23,7 +23,7 @@ use Rattle.rulebook.specs.Rulebooks.{rules_of, rule_of}
 use Rattle.rulebook.specs.declared.records.RuleRecord.{RuleRecord}
 use Rattle.search.specs.Scenes.{sought, drawn, Canonical, Listed as Searched}
 use Rattle.search.specs.declared.scene.Scene.{Scene}
-use Rattle.drawing.specs.Asking.{ShowsRule, Shown, Seeks, Barred}
+use Rattle.drawing.specs.Asking.{Shown, Seeks, Barred}
 use Rattle.drawing.specs.Steps.{Listing}
 use Rattle.drawing.specs.View.{answer, state, setting, Lived, Goes}
 use Rattle.drawing.specs.declared.drawing.Drawing.{Drawing}

@@ -1,13 +1,13 @@
 -- What the history of a drawing in memory says of it, and what a call has to show.
-use Rattle.std.proofs.Common.{◌≡◌, ℕ, ◌≤◌, true, List, [], ◌∷◌, ◌++◌, map, length, take, sym, refl, ap, ◌∙◌, subst}
+use Rattle.std.proofs.Common.{◌≡◌, ℕ, ◌≤◌, List, [], ◌∷◌, map, length, sym, refl, ap, ◌∙◌, subst}
 use Rattle.kinds.specs.Model.{KindModel}
 use Rattle.kinds.specs.Rules.{Rules}
 use Rattle.sheets.specs.Contents.{items, room, Sound}
 use Rattle.grammar.specs.Again.{Again}
 use Rattle.grammar.specs.Calls.{Call, Answer, Event}
 use Rattle.grammar.specs.Moves.{Moves, History}
-use Rattle.grammar.specs.Record.{Step, blank, stepped}
-use Rattle.grammar.specs.State.{Setting, State, begun, covered, started}
+use Rattle.grammar.specs.Record.{blank, stepped}
+use Rattle.grammar.specs.State.{Setting, begun, covered, started}
 use Rattle.grammar.proofs.Histories.{history_more}
 use Rattle.grammar.proofs.Record.{runs, at_first}
 use Rattle.grammar.proofs.Rooms.{now_is, room_again}

@@ -1,5 +1,5 @@
 -- A rule applied at one of its places.
-use Rattle.std.proofs.Common.{◌≡◌, ℕ, ◌+◌, ◌<◌, ◌≤◌, Bool, true, false, ◌&&◌, ◌⊎◌, List, [], ◌∷◌, ◌++◌, map, length, take, set, ℤ, Some, None, Option, sym, refl, ap, ◌∙◌, subst, inl, inr, arith}
+use Rattle.std.proofs.Common.{◌≡◌, ℕ, ◌+◌, ◌<◌, ◌≤◌, Bool, true, false, ◌&&◌, ◌⊎◌, List, [], ◌∷◌, ◌++◌, map, length, take, set, ℤ, Some, None, sym, refl, ap, ◌∙◌, subst, inl, inr, arith}
 use Rattle.std.proofs.lemmas.Bool.{cases_lt}
 use Rattle.std.proofs.lemmas.List.{take_more_set, length-set, length-take, map-append}
 use Rattle.lattice.specs.declared.placement.Placement.{Placement}
@@ -9,7 +9,6 @@ use Rattle.sheets.specs.Contents.{items, room, Sound}
 use Rattle.sheets.specs.Maximal.{Lists}
 use Rattle.sheets.specs.declared.sheet.Sheet.{Sheet}
 use Rattle.grammar.specs.Calls.{Answer, Event, pick, done, refused}
-use Rattle.grammar.specs.Moves.{Moves}
 use Rattle.grammar.specs.Numbers.{nth, ordinal}
 use Rattle.grammar.specs.Places.{Place, Numbered, Listed}
 use Rattle.grammar.specs.Record.{Step, replaced}
@@ -25,7 +24,7 @@ use Rattle.drawing.specs.Steps.{Fits, Stepped, Listing}
 use Rattle.drawing.specs.View.{step_of, taken, state, setting, Lived, Goes}
 use Rattle.drawing.specs.declared.drawing.Drawing.{Drawing}
 use Rattle.drawing.specs.declared.records.StepRecord.{StepRecord}
-use Rattle.drawing.proofs.Lives.{length_map, Alive, goes_by, stays_by}
+use Rattle.drawing.proofs.Lives.{length_map, goes_by, stays_by}
 use Rattle.drawing.proofs.Stays.{split_and, stays_in, leaves}
 use Rattle.drawing.proofs.Strokes.{own}
 use Rattle.drawing.proofs.Turns.{clamped}

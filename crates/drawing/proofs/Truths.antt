@@ -13,7 +13,7 @@ use Rattle.grammar.specs.Sets.{SameCover}
 use Rattle.grammar.specs.State.{Setting, covered}
 use Rattle.grammar.proofs.Rooms.{room_again}
 use Rattle.grammar.proofs.Settling.{meaning}
-use Rattle.drawing.specs.PlacesFollow.{OneDrawing, TwoDrawings, PlacesFollowCover}
+use Rattle.drawing.specs.PlacesFollow.{OneDrawing, PlacesFollowCover}
 use Rattle.drawing.specs.View.{state, setting, Lived}
 use Rattle.drawing.specs.declared.drawing.Drawing.{Drawing}
 use Rattle.drawing.proofs.Lives.{history, alive}

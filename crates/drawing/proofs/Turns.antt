@@ -1,13 +1,13 @@
 -- Changes of a sheet one after the other.
-use Rattle.std.proofs.Common.{◌≡◌, ℕ, suc, ◌+◌, ◌<◌, ◌≤◌, min, Bool, true, false, not, ◌&&◌, ◌||◌, List, [], ◌∷◌, ◌++◌, length, get_or, take, IfErr, Ok, Err, Result, sym, refl, ap, ◌∙◌, subst, ⊎_elim, arith, MatchResult}
+use Rattle.std.proofs.Common.{◌≡◌, ℕ, ◌+◌, ◌<◌, ◌≤◌, min, Bool, true, false, not, ◌&&◌, ◌||◌, List, [], ◌∷◌, ◌++◌, length, get_or, take, IfErr, Ok, Err, Result, sym, refl, ap, ◌∙◌, subst, ⊎_elim, arith, MatchResult}
 use Rattle.std.proofs.lemmas.Bool.{cases_lt}
 use Rattle.std.proofs.lemmas.List.{take_all, take_more, length-take}
 use Rattle.lattice.specs.declared.placement.Placement.{Placement}
 use Rattle.lattice.specs.declared.refusal.Refusal.{Refusal}
-use Rattle.kinds.specs.Model.{KindModel, covers}
+use Rattle.kinds.specs.Model.{KindModel}
 use Rattle.sheets.specs.Contents.{items, room, Sound, covered, Became, Refused}
 use Rattle.sheets.specs.Cover.{union, difference}
-use Rattle.sheets.specs.Maximal.{Same, Lists}
+use Rattle.sheets.specs.Maximal.{Same}
 use Rattle.sheets.specs.declared.sheet.Sheet.{Sheet}
 use Rattle.sheets.proofs.Joined.{or_assoc, or_none}
 use Rattle.grammar.specs.Sets.{atoms, placed}

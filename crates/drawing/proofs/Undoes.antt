@@ -1,5 +1,5 @@
 -- Recorded steps made again, from the start copies.
-use Rattle.std.proofs.Common.{◌≡◌, ℕ, zero, suc, ◌+◌, ◌-◌, ◌<◌, ◌≤◌, min, true, ◌⊎◌, List, [], ◌∷◌, ◌++◌, map, length, get_or, take, Some, None, Ok, Err, Option, Result, sym, refl, ap, ◌∙◌, subst, inl, inr, ⊎_elim, append_assoc, arith, MatchResult}
+use Rattle.std.proofs.Common.{◌≡◌, ℕ, ◌+◌, ◌-◌, ◌<◌, ◌≤◌, min, true, List, [], ◌∷◌, ◌++◌, map, length, get_or, take, Some, None, Ok, Err, Option, Result, sym, refl, ap, ◌∙◌, subst, inl, ⊎_elim, append_assoc, arith, MatchResult}
 use Rattle.std.proofs.lemmas.Bool.{cases_lt}
 use Rattle.std.proofs.lemmas.List.{take_more, length-take, map-append}
 use Rattle.lattice.specs.declared.refusal.Refusal.{Refusal}
@@ -23,7 +23,7 @@ use Rattle.drawing.specs.Steps.{with_sheets, Stepped, Shows, Sheets, Redone, Rep
 use Rattle.drawing.specs.View.{step_of, taken, state, setting, Goes}
 use Rattle.drawing.specs.declared.drawing.Drawing.{Drawing}
 use Rattle.drawing.specs.declared.records.StepRecord.{StepRecord}
-use Rattle.drawing.proofs.Lives.{length_map, Alive, goes_by, stays_by}
+use Rattle.drawing.proofs.Lives.{length_map, goes_by, stays_by}
 use Rattle.drawing.proofs.Picks.{turned_lists}
 use Rattle.drawing.proofs.Strokes.{own}
 use Rattle.drawing.proofs.Turns.{clamped, within}

@@ -1,5 +1,5 @@
 -- What the parts of a step do to a drawing in memory, and what making the steps again does.
-use Rattle.std.specs.Prelude.{◌≡◌, ℕ, ◌+◌, ◌≤◌, List, map, length, take, Some}
+use Rattle.std.specs.Prelude.{◌≡◌, ℕ, ◌+◌, ◌≤◌, map, length, take, Some}
 use Rattle.lattice.specs.declared.placement.Placement.{Placement}
 use Rattle.kinds.specs.Model.{KindModel}
 use Rattle.sheets.specs.Contents.{items, room, Sound, covered as covered_by}

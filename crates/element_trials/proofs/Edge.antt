@@ -1,12 +1,11 @@
 -- The edge from (-3, -1) to (-1, 0): its numbers, its line and its position.
-use Rattle.std.proofs.Common.{◌≡◌, ℕ, ℤ, pos, negsuc, ◌+ℤ◌, ◌-ℤ◌, ◌*ℤ◌, sym, refl, ap, ◌∙◌, arith}
+use Rattle.std.proofs.Common.{◌≡◌, ℕ, ℤ, pos, negsuc, ◌+ℤ◌, ◌-ℤ◌, ◌*ℤ◌, ap, ◌∙◌, arith}
 use Rattle.std.proofs.lemmas.Int.{ints}
 use Rattle.numbers.specs.Gcd.{gcd}
 use Rattle.elements.specs.Inks.{inked}
 use Rattle.elements.specs.declared.ink.Ink.{Ink}
 use Rattle.segments.specs.Edges.{edge, line, edge_position}
 use Rattle.segments.specs.Segments.{first, Spans}
-use Rattle.segments.specs.declared.segment.Edge.{Edge}
 use Rattle.segments.specs.declared.segment.Segment.{Segment}
 use Rattle.element_trials.specs.Worked.{twice_inked}
 

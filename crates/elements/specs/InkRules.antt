@@ -1,14 +1,14 @@
 -- Ink over a kind that keeps the rules keeps them.
-use Rattle.std.specs.Prelude.{◌≡◌, ℕ, Bool, true, false, ◌&&◌, ◌||◌, ◌↔◌, ℤ, pos, ◌≤ℤ◌, ◌<ℤ◌, Some, None, Option, int_le, refl}
-use Rattle.std.proofs.Common.{ap, sym, ◌∙◌, subst, ⊎_elim, arith, rules}
+use Rattle.std.specs.Prelude.{◌≡◌, ℕ, Bool, true, false, ◌&&◌, ◌||◌, ◌↔◌, ℤ, pos, Some, None, Option, int_le, refl}
+use Rattle.std.proofs.Common.{ap, sym, ◌∙◌, subst, arith}
 use Rattle.std.specs.Int.Signed.{lt_z}
-use Rattle.std.specs.Ordering.{is_eq, ordering_then}
+use Rattle.std.specs.Ordering.{is_eq}
 use Rattle.std.proofs.lemmas.Bool.{and_parts, and_from}
 use Rattle.std.proofs.lemmas.Int.{ints}
 use Rattle.lattice.specs.Compare.{ordering}
 use Rattle.lattice.specs.declared.placement.Placement.{Placement}
 use Rattle.kinds.specs.Model.{KindModel, covers, moved}
-use Rattle.kinds.specs.Rules.{Rules, Covers, Touch, Union, Stretch, Slice}
+use Rattle.kinds.specs.Rules.{Rules, Covers, Touch, Union, Slice}
 use Rattle.elements.specs.Inks.{ink_model, inked, with_ink}
 use Rattle.elements.specs.declared.ink.Ink.{Ink}
 use Rattle.elements.specs.declared.ink.Inked.{Inked}

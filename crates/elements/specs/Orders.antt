@@ -1,10 +1,9 @@
 -- The orders that carriers have, of any kind.
-use Rattle.std.specs.Prelude.{◌≡◌, true, false, ◌&&◌, ℤ, ◌<ℤ◌, refl}
+use Rattle.std.specs.Prelude.{◌≡◌, true, ◌&&◌, refl}
 use Rattle.std.specs.declared.cmp.Ordering.TheVariants.{Less, Equal, Greater}
 use Rattle.std.specs.declared.cmp.Ordering.{Ordering}
-use Rattle.std.proofs.Common.{ap, arith, rules}
-use Rattle.std.specs.Int.Signed.{lt_z}
-use Rattle.std.specs.Ordering.{is_eq, ordering_reverse, ordering_then}
+use Rattle.std.proofs.Common.{arith, rules}
+use Rattle.std.specs.Ordering.{is_eq, ordering_then}
 use Rattle.std.proofs.lemmas.Int.{ints}
 use Rattle.lattice.specs.Compare.{ordering}
 use Rattle.kinds.specs.Rules.{Ordered}

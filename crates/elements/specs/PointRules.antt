@@ -1,25 +1,23 @@
 -- Points keep the rules.
-use Rattle.std.specs.Prelude.{◌≡◌, ℕ, ◌<◌, Bool, true, false, ◌&&◌, ◌⊎◌, ◌↔◌, ℤ, pos, negsuc, ◌+ℤ◌, ◌-ℤ◌, ◌≤ℤ◌, ◌<ℤ◌, Some, None, Option, refl}
-use Rattle.std.proofs.Common.{ap, sym, ◌∙◌, subst, inl, inr, ⊎_elim, arith, rules}
+use Rattle.std.specs.Prelude.{◌≡◌, ℕ, ◌<◌, true, false, ◌&&◌, ◌⊎◌, ℤ, pos, negsuc, ◌+ℤ◌, ◌-ℤ◌, ◌≤ℤ◌, ◌<ℤ◌, Some, None, refl}
+use Rattle.std.proofs.Common.{ap, sym, ◌∙◌, subst, ⊎_elim, arith}
 use mathlib.Core.HLevel.{is_prop→PathP}
 use Rattle.std.proofs.lemmas.Int.{ints}
-use Rattle.std.proofs.lemmas.Bool.{and_parts, and_from, and_left, and_right, and_cases, cases_Bool, both_ways}
+use Rattle.std.proofs.lemmas.Bool.{and_parts, and_from, and_cases, cases_Bool, both_ways}
 use Rattle.lattice.specs.Field.{ranged}
 use Rattle.lattice.specs.Turns.{across, upward}
-use Rattle.lattice.specs.Valid.{tested}
 use Rattle.lattice.specs.declared.placement.Placement.{Placement}
-use Rattle.lattice.proofs.Bounds.{ranged_parts, shift_within}
+use Rattle.lattice.proofs.Bounds.{shift_within}
 use Rattle.lattice.proofs.Same.{bools}
 use Rattle.lattice.proofs.Turning.{ranged_turned, ranged_back}
 use Rattle.lattice.proofs.Valid.{tested_true, tested_false, tested_none}
-use Rattle.kinds.specs.Model.{KindModel, covers}
 use Rattle.kinds.specs.Answers.{Shifts}
 use Rattle.kinds.specs.Rules.{Rules, Covers, Touch, Union, Stretch, Slice, Ordered}
 use Rattle.elements.specs.Points.{point, pair_order, point_model}
 use Rattle.elements.specs.declared.point.Point.{Point}
 use Rattle.elements.specs.declared.point.LatticePoint.{LatticePoint}
 use Rattle.elements.specs.Orders.{ordered_numbers, ordered_then}
-use Rattle.elements.specs.Covering.{Covered, covered, covered_from, union_from, slice_from}
+use Rattle.elements.specs.Covering.{covered, covered_from, union_from, slice_from}
 
 pub same_point : (d e : Point) → d.x ≡ e.x → d.y ≡ e.y → d ≡ e
 same_point d e px py = λ i. record { x = px i; y = py i; wide = is_prop→PathP (λ j. ranged (px j) ≡ true) (λ j. bools (ranged (px j)) true) d.wide e.wide i; tall = is_prop→PathP (λ j. ranged (py j) ≡ true) (λ j. bools (ranged (py j)) true) d.tall e.tall i }

@@ -5,7 +5,6 @@ use Rattle.std.proofs.lemmas.Bool.{false≢true, both_ways, and_parts, cases_ord
 use Rattle.lattice.specs.declared.placement.Placement.{Placement}
 use Rattle.lattice.specs.Field.{shifting}
 use Rattle.lattice.specs.Order.{triple, Earlier}
-use Rattle.lattice.specs.Turns.{across}
 use Rattle.lattice.proofs.Same.{same_placement}
 use Rattle.kinds.specs.Model.{KindModel, covers, moved}
 use Rattle.kinds.specs.Rules.{Rules}

@@ -10,7 +10,6 @@ use Rattle.grammar.specs.Record.{Step, Record, blank, stroked, replaced, replace
 use Rattle.grammar.specs.Rules.{Rule, side}
 use Rattle.grammar.specs.Sets.{Sets, empty}
 use Rattle.grammar.specs.State.{Setting, State, begun, covered, started, Holds}
-use Rattle.grammar.proofs.Exists.{numbered}
 use Rattle.grammar.proofs.Numbers.{some_one}
 use Rattle.grammar.proofs.Uniform.{same_places}
 

@@ -1,6 +1,5 @@
 -- Places and their numbers follow from what a drawing covers, and that from its record.
 use Rattle.std.proofs.Common.{◌≡◌, ℕ, zero, suc, ◌<◌, true, false, ◌⊎◌, List, [], ◌∷◌, map, length, Some, None, sym, refl, ap, ◌∙◌, subst, inl, inr}
-use Rattle.std.proofs.lemmas.Bool.Decides.{nat_tests}
 use Rattle.std.proofs.lemmas.Bool.{true≢false}
 use Rattle.lattice.specs.declared.placement.Placement.{Placement}
 use Rattle.kinds.specs.Model.{KindModel}

@@ -1,5 +1,5 @@
 -- How the histories end: as the worked cases do.
-use Rattle.std.proofs.Common.{◌≡◌, ℕ, zero, suc, true, false, List, [], ◌∷◌, ◌++◌, pos, Result, sym, refl, ap, ◌∙◌, subst}
+use Rattle.std.proofs.Common.{◌≡◌, ℕ, zero, suc, List, [], ◌∷◌, pos, Result, sym, ap, subst}
 use Rattle.std.proofs.lemmas.Bool.{false≢true}
 use Rattle.lattice.specs.Refusals.{number}
 use Rattle.lattice.specs.declared.refusal.Refusal.{Refusal}
@@ -9,11 +9,10 @@ use Rattle.elements.specs.PointRules.{point_rules}
 use Rattle.elements.specs.Points.{point_model}
 use Rattle.segments.specs.SegmentRules.{segment_rules}
 use Rattle.segments.specs.Segments.{segment_model}
-use Rattle.grammar.specs.Calls.{Answer, Event, is_refused, stroke, draw_mark, draw_cut, pick, undo, done, refused}
-use Rattle.grammar.specs.Moves.{History}
+use Rattle.grammar.specs.Calls.{Answer, is_refused, stroke, draw_mark, draw_cut, pick, undo, done, refused}
 use Rattle.grammar.specs.State.{Setting}
 use Rattle.cases.proofs.Worked.{worked}
-use Rattle.cases.specs.Cases.{two, move_on, step_right, Cases}
+use Rattle.cases.specs.Cases.{two, move_on, step_right}
 use Rattle.cases.specs.Figures.{Mark, Cut, Told, marks, cuts, marked, drew, picked, not_picked, undid, setting}
 use Rattle.drawing.specs.View.{answer, Lived}
 use Rattle.drawing.specs.declared.drawing.Drawing.{Drawing}

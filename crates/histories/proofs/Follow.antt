@@ -1,8 +1,8 @@
 -- A drawing in memory follows a worked history, call by call.
-use Rattle.std.proofs.Common.{◌≡◌, ℕ, List, [], ◌∷◌, ◌++◌, map, length, sym, refl, ap, ◌∙◌, subst, arith}
+use Rattle.std.proofs.Common.{◌≡◌, List, [], ◌∷◌, ◌++◌, length, sym, refl, ap, subst, arith}
 use Rattle.kinds.specs.Model.{KindModel}
 use Rattle.kinds.specs.Rules.{Rules}
-use Rattle.grammar.specs.Calls.{Call, Answer, Event}
+use Rattle.grammar.specs.Calls.{Call, Event}
 use Rattle.grammar.specs.Moves.{Moves, Runs, History}
 use Rattle.grammar.specs.State.{Setting, State, begun}
 use Rattle.grammar.proofs.Answering.{one_way}

@@ -1,8 +1,8 @@
 -- How the histories end.
-use Rattle.std.specs.Prelude.{◌≡◌, [], ◌∷◌, pos, Ok, Err, Result, refl}
+use Rattle.std.specs.Prelude.{◌≡◌, [], ◌∷◌, pos, Result, refl}
 use Rattle.lattice.specs.declared.refusal.Refusal.{Refusal}
 use Rattle.grammar.specs.Calls.{refused, done}
-use Rattle.drawing.specs.View.{state, setting, answer, Lived}
+use Rattle.drawing.specs.View.{state, answer, Lived}
 use Rattle.drawing.specs.declared.drawing.Drawing.{Drawing}
 use Rattle.cases.specs.Cases.{two, move_on, step_right}
 use Rattle.cases.specs.Figures.{Mark, Cut, marks, cuts, mark, place, marked, drew, picked, not_picked, undid, setting as setting_of, of_marks, of_cuts, fresh, stepped_once}

@@ -1,5 +1,5 @@
 -- Turns, and placements, with the same numbers are the same.
-use Rattle.std.proofs.Common.{◌≡◌, Bool, true, ltb, refl, ap}
+use Rattle.std.proofs.Common.{◌≡◌, Bool, true, ltb}
 use mathlib.Core.HLevel.{hedberg, is_prop→PathP}
 use mathlib.Core.Bool.{Bool-discrete}
 use Rattle.lattice.specs.Field.{shifting}

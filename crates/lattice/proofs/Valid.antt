@@ -1,5 +1,5 @@
 -- What is made from a test passed.
-use Rattle.std.proofs.Common.{◌≡◌, Bool, true, false, Some, None, Option, refl, ap, rules}
+use Rattle.std.proofs.Common.{◌≡◌, Bool, true, false, None, Option, refl, ap}
 use Rattle.std.proofs.lemmas.Bool.{false≢true, true≢false}
 use Rattle.lattice.specs.Valid.{tested}
 use Rattle.lattice.proofs.Same.{bools}

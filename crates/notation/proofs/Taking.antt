@@ -1,8 +1,8 @@
 -- Entries that go on the contents.
-use Rattle.std.proofs.Common.{◌≡◌, ℕ, ◌+◌, ◌<◌, List, [], ◌∷◌, ◌++◌, map, length, take, set, sym, refl, ap, ◌∙◌, subst, append_assoc}
+use Rattle.std.proofs.Common.{◌≡◌, ℕ, ◌+◌, ◌<◌, List, [], ◌∷◌, ◌++◌, map, length, take, set, sym, ap, ◌∙◌, subst, append_assoc}
 use mathlib.Core.List.{map-append}
 use Rattle.std.proofs.lemmas.List.{take_more_set}
-use Rattle.notation.specs.Contents.{entries_at, Counts, may_follow}
+use Rattle.notation.specs.Contents.{entries_at}
 use Rattle.notation.specs.declared.contents.Entry.{Entry}
 use Rattle.notation.specs.declared.contents.Entry.TheVariants.{Start, Rule, Steps, Body}
 use Rattle.notation.specs.declared.contents.Stage.{Stage}

@@ -1,7 +1,7 @@
 -- How long commands are.
-use Rattle.std.proofs.Common.{◌≡◌, ℕ, ◌+◌, List, [], ◌∷◌, ◌++◌, length, ℤ, pos, codes, decimal, sym, refl, ap, ◌∙◌, append_assoc, arith, length-append}
+use Rattle.std.proofs.Common.{◌≡◌, ℕ, ◌+◌, List, [], ◌∷◌, ◌++◌, length, ℤ, pos, codes, decimal, sym, ap, ◌∙◌, append_assoc, arith, length-append}
 use Rattle.std.specs.Fmt.{signed_decimal}
-use Rattle.notation.specs.Commands.{command, command_line}
+use Rattle.notation.specs.Commands.{command_line}
 
 -- a line, by its word and the fields after it
 pub three_fields : (w : List ℕ) (a b c : ℤ) → w ++ ((32 ∷ signed_decimal a) ++ ((32 ∷ signed_decimal b) ++ ((32 ∷ signed_decimal c) ++ (10 ∷ [])))) ≡ command_line w (a ∷ b ∷ c ∷ [])

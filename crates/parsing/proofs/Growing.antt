@@ -1,6 +1,5 @@
 -- Contents that grow by a line.
-use Rattle.std.proofs.Common.{◌≡◌, ℕ, ◌+◌, ◌<◌, true, List, [], ◌∷◌, ◌++◌, map, length, sym, refl, ap, ◌∙◌, append_assoc, append-nil, arith, length-append, length-drop}
-use Rattle.std.specs.List.{concat}
+use Rattle.std.proofs.Common.{◌≡◌, ℕ, ◌+◌, ◌<◌, true, List, [], ◌∷◌, ◌++◌, length, sym, ap, ◌∙◌, append_assoc, append-nil, arith, length-append, length-drop}
 use Rattle.notation.specs.Contents.{entry_text, entry_line, entry_lines}
 use Rattle.notation.specs.Lines.{first_line, is_ended, after_line, line_length}
 use Rattle.notation.specs.declared.contents.Entry.{Entry}

@@ -1,9 +1,7 @@
 -- Marks and cuts from the fields behind a word.
-use Rattle.std.proofs.Common.{◌≡◌, ℕ, ◌<◌, Bool, true, false, ◌&&◌, ◌⊎◌, List, [], ◌∷◌, ◌++◌, map, length, get_or, ℤ, pos, Ok, Err, MatchBool, Result, sym, refl, ap, ◌∙◌, subst, inl, inr, ⊎_elim, arith}
+use Rattle.std.proofs.Common.{◌≡◌, ℕ, ◌<◌, Bool, true, false, ◌&&◌, List, [], ◌∷◌, length, get_or, ℤ, pos, Ok, Err, MatchBool, Result, sym, refl, ap, ◌∙◌, subst, inl, inr, arith}
 use Rattle.std.specs.Fmt.{signed_decimal}
-use Rattle.std.specs.List.{AllByRecursion as All}
 use Rattle.lattice.specs.Field.{ranged}
-use Rattle.lattice.specs.Refusals.{number}
 use Rattle.lattice.specs.declared.refusal.Refusal.{Refusal}
 use Rattle.elements.specs.Inks.{inks, InkMade}
 use Rattle.elements.specs.declared.ink.Ink.{Ink}
@@ -13,7 +11,7 @@ use Rattle.segments.specs.declared.segment.Segment.{Segment}
 use Rattle.notation.specs.Numbers.{Short}
 use Rattle.notation.specs.Words.{spaced, Splits}
 use Rattle.commands.specs.Meanings.{in_range}
-use Rattle.parsing.specs.Strokes.{FieldIs, NotNumbers, NumbersAre, MarkMade, CutMade, MarkFields, CutFields, cut_numbers, cut_numbers_back}
+use Rattle.parsing.specs.Strokes.{NotNumbers, NumbersAre, MarkMade, CutMade, MarkFields, CutFields, cut_numbers, cut_numbers_back}
 use Rattle.parsing.proofs.Numbering.{no_numbers}
 
 -- a field and the number that it is

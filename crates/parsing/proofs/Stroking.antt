@@ -1,18 +1,13 @@
 -- Lines that a word opens: what is behind it decides what they are.
-use Rattle.std.proofs.Common.{◌≡◌, ℕ, suc, ◌+◌, ◌<◌, Bool, true, false, ◌&&◌, ◌⊎◌, List, [], ◌∷◌, ◌++◌, map, length, get_or, drop, ℤ, pos, Ok, Err, codes, Result, sym, refl, ap, ◌∙◌, subst, inl, inr, ⊎_elim, arith}
+use Rattle.std.proofs.Common.{◌≡◌, ℕ, suc, ◌<◌, true, false, ◌⊎◌, List, [], ◌∷◌, ◌++◌, map, length, get_or, drop, ℤ, codes, sym, refl, ap, ◌∙◌, inl, inr, ⊎_elim, arith}
 use Rattle.std.specs.Fmt.{signed_decimal}
 use Rattle.std.specs.List.{AllByRecursion as All}
-use Rattle.lattice.specs.Refusals.{number}
-use Rattle.lattice.specs.declared.refusal.Refusal.{Refusal}
-use Rattle.elements.specs.declared.ink.Ink.{Ink}
-use Rattle.elements.specs.declared.point.Point.{Point}
-use Rattle.segments.specs.declared.segment.Segment.{Segment}
 use Rattle.notation.specs.Commands.{command}
 use Rattle.notation.specs.Numbers.{Short}
 use Rattle.notation.specs.Words.{spaced, Field, Splits}
-use Rattle.commands.specs.Meanings.{Formed, Numeric, in_range, StrokeFormed, StrokeNumeric, StrokeFault}
-use Rattle.parsing.specs.Strokes.{FieldFault, NumbersAre, MarkMade, CutMade, MarkFields, CutFields}
-use Rattle.parsing.proofs.Numbering.{splits_same, numbers_split, no_numbers}
+use Rattle.commands.specs.Meanings.{Formed, Numeric, in_range, StrokeFault}
+use Rattle.parsing.specs.Strokes.{FieldFault, NumbersAre}
+use Rattle.parsing.proofs.Numbering.{splits_same, numbers_split}
 
 -- the fields behind a word
 behind : (w line rest : List ℕ) (n : ℕ) → 0 < n → ((f r : List ℕ) → w ++ (32 ∷ f) ≡ w ++ (32 ∷ r) → f ≡ r) → line ≡ w ++ (32 ∷ rest) → Formed w n line → (fs : List (List ℕ)) × (length fs ≡ n) × Splits rest fs

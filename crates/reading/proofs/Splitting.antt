@@ -1,11 +1,10 @@
 -- Fields and the spaces between them: a line has one way of being cut into fields.
-use Rattle.std.proofs.Common.{◌≡◌, ℕ, zero, suc, ◌+◌, ◌-◌, ◌<◌, ◌≤◌, Bool, true, false, cond, eqb, List, [], ◌∷◌, ◌++◌, length, take, drop, sym, refl, ap, ◌∙◌, subst, add-one, one-add, arith, length-append, eq-eqb, eqb-true}
-use Rattle.std.specs.List.{AllByRecursion as All}
+use Rattle.std.proofs.Common.{◌≡◌, ℕ, ◌+◌, ◌-◌, ◌<◌, true, eqb, List, [], ◌∷◌, ◌++◌, length, take, drop, sym, refl, ap, ◌∙◌, subst, arith, length-append, eq-eqb, eqb-true}
 use Rattle.std.proofs.lemmas.List.{take_rest, take_all, length-take-le}
 use Rattle.std.proofs.lemmas.Bool.Decides.{nat_tests}
 use Rattle.notation.specs.Words.{spaced, Field, Splits}
 use Rattle.reading.proofs.Cutting.{Free, front_free, free_front, free_whole, cut_at}
-use Rattle.reading.specs.Fields.{solid_length, Takes, NoFields}
+use Rattle.reading.specs.Fields.{solid_length, NoFields}
 
 abbrev Solid : List ℕ → Type 0
 Solid bs = Free 32 bs

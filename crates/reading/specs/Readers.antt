@@ -1,5 +1,5 @@
 -- What a reader has before it, and what it takes.
-use Rattle.std.specs.Prelude.{◌≡◌, ℕ, ◌+◌, ◌-◌, ◌<◌, ◌≤◌, cond, List, length, take, drop, Some, None, Option}
+use Rattle.std.specs.Prelude.{◌≡◌, ℕ, ◌+◌, ◌-◌, ◌<◌, cond, List, length, take, drop, Some, None, Option}
 use Rattle.notation.specs.Lines.{newlines, first_line, is_ended, after_line}
 use Rattle.reading.specs.declared.line.Line.{Line}
 use Rattle.reading.specs.declared.reader.Reader.{Reader}

@@ -1,5 +1,5 @@
 -- Rules of a rulebook, when one is added and when a side of the latest grows.
-use Rattle.std.proofs.Common.{◌≡◌, ℕ, ◌+◌, ◌-◌, ◌<◌, ◌≤◌, ◌⊎◌, List, [], ◌∷◌, ◌++◌, map, length, get_or, take, drop, set, sum_by, sym, refl, ap, ◌∙◌, subst, inl, inr, arith}
+use Rattle.std.proofs.Common.{◌≡◌, ℕ, ◌+◌, ◌<◌, List, [], ◌∷◌, ◌++◌, map, length, get_or, take, set, sum_by, sym, refl, ap, ◌∙◌, subst, arith}
 use mathlib.Core.List.{map-append}
 use Rattle.std.proofs.lemmas.List.{take_more, take_more_set}
 use Rattle.std.proofs.lemmas.List.Sums.{sum_by-cons}
@@ -9,17 +9,16 @@ use Rattle.kinds.specs.Model.{KindModel, covers}
 use Rattle.sheets.specs.Cover.{union, cover}
 use Rattle.sheets.specs.Maximal.{Counts}
 use Rattle.grammar.specs.Rules.{Side, Rule}
-use Rattle.rulebook.specs.Growing.{latest_record, SideGrew, TableStayed, Widens, Overflows}
+use Rattle.rulebook.specs.Growing.{TableStayed, Overflows}
 use Rattle.rulebook.specs.Rulebooks.{side_of, KeptSide}
-use Rattle.rulebook.specs.Tables.{stretch_of, latest, Stayed}
+use Rattle.rulebook.specs.Tables.{stretch_of}
 use Rattle.rulebook.specs.declared.records.RuleRecord.{RuleRecord}
 use Rattle.rulebook.specs.declared.records.SideRecord.{SideRecord}
 use Rattle.rulebook.specs.declared.rulebook.SideTables.{SideTables}
 use Rattle.rulebook.specs.declared.stroke.Stroke.{Stroke}
 use Rattle.rulebook.specs.declared.stroke.Stroke.TheVariants.{Mark, Cut}
-use Rattle.rulebook.specs.declared.table.Stretch.{Stretch}
 use Rattle.rulebook.proofs.Chaining.{used_before, last_is}
-use Rattle.rulebook.proofs.Sides.{SideResult, side_grown, parted_marks, parted_cuts}
+use Rattle.rulebook.proofs.Sides.{parted_marks, parted_cuts}
 
 -- the lists of records before and after the latest was changed
 pub kept_before : (xs : List RuleRecord) (n i : ℕ) (x d : RuleRecord) → n ≡ i + 1 → i < length xs → x ≡ get_or xs i d → take n xs ≡ take i xs ++ (x ∷ [])

@@ -1,12 +1,11 @@
 -- Stretches one behind the other in a table, when the latest is closed and when it grows.
-use Rattle.std.proofs.Common.{◌≡◌, ℕ, ◌+◌, ◌-◌, ◌<◌, ◌≤◌, true, List, [], ◌∷◌, ◌++◌, map, length, take, drop, sum_by, sym, refl, ap, ◌∙◌, subst, arith, length-drop}
+use Rattle.std.proofs.Common.{◌≡◌, ℕ, ◌+◌, ◌-◌, ◌≤◌, List, [], ◌∷◌, ◌++◌, length, take, drop, sum_by, sym, refl, ap, ◌∙◌, subst, arith, length-drop}
 use Rattle.std.specs.List.{AllByRecursion as All}
 use Rattle.std.proofs.lemmas.List.{take-take, length-take}
 use Rattle.std.proofs.lemmas.List.Sums.{sum_by-cons}
 use Rattle.std.proofs.lemmas.Slice.{between_is}
-use Rattle.kinds.specs.Model.{KindModel, covers}
-use Rattle.sheets.specs.Cover.{union, cover, canonical}
-use Rattle.sheets.specs.Maximal.{Lists}
+use Rattle.kinds.specs.Model.{KindModel}
+use Rattle.sheets.specs.Cover.{canonical}
 use Rattle.rulebook.specs.Rulebooks.{Chained, KeptTable}
 use Rattle.rulebook.specs.Tables.{stretch_of, latest, Tidy, Grew}
 use Rattle.rulebook.specs.declared.table.Stretch.{Stretch}

@@ -1,19 +1,19 @@
 -- The calls on a rulebook, from what they do to its records and tables.
-use Rattle.std.proofs.Common.{◌≡◌, ℕ, ◌+◌, ◌<◌, ◌≤◌, ◌⊎◌, List, [], ◌∷◌, ◌++◌, map, length, get_or, take, set, sym, refl, ap, ◌∙◌, subst, inl, inr, arith}
+use Rattle.std.proofs.Common.{◌≡◌, ℕ, ◌+◌, ◌<◌, ◌≤◌, List, [], ◌∷◌, ◌++◌, map, length, get_or, take, set, sym, refl, ap, ◌∙◌, subst, arith}
 use mathlib.Core.List.{map-append}
 use Rattle.std.proofs.lemmas.List.{length-take, length-map, length-set}
 use Rattle.lattice.specs.declared.refusal.Refusal.{Refusal}
 use Rattle.kinds.specs.Model.{KindModel}
 use Rattle.grammar.specs.Rules.{Side, Rule}
 use Rattle.lattice.specs.Refusals.{number}
-use Rattle.rulebook.specs.Growing.{latest_record, Closed, SideGrew, TableStayed, Widens, LatestGrew, Grown, NotGrown, Added, left_side, right_side, with_left, with_right, Full}
+use Rattle.rulebook.specs.Growing.{latest_record, Closed, SideGrew, TableStayed, Widens, LatestGrew, Grown, Added, left_side, right_side, with_left, with_right, Full}
 use Rattle.rulebook.specs.Rulebooks.{side_of, rule_of, rules_of, kept, bare, KeptSide, Kept}
 use Rattle.rulebook.specs.declared.records.RuleRecord.{RuleRecord}
 use Rattle.rulebook.specs.declared.records.SideRecord.{SideRecord}
 use Rattle.rulebook.specs.declared.rulebook.Rulebook.{Rulebook}
 use Rattle.rulebook.specs.declared.rulebook.SideTables.{SideTables}
 use Rattle.rulebook.specs.declared.stroke.Stroke.{Stroke}
-use Rattle.rulebook.proofs.Books.{kept_before, kept_after, rule_at, same_rules, parted_side, side_again, rules_parted, overflows}
+use Rattle.rulebook.proofs.Books.{kept_before, kept_after, rule_at, same_rules, parted_side, side_again, overflows}
 use Rattle.rulebook.proofs.Sides.{SideResult, side_grown, ClosedResult, side_closed}
 
 abbrev pub blank : RuleRecord

@@ -5,17 +5,16 @@ use Rattle.std.specs.List.{AllByRecursion as All}
 use Rattle.kinds.specs.Model.{KindModel, covers}
 use Rattle.sheets.specs.Cover.{union, cover}
 use Rattle.sheets.specs.Maximal.{Lists}
-use Rattle.grammar.specs.Rules.{Side}
 use Rattle.rulebook.specs.Growing.{latest_record, Closed, SideGrew, Widens}
 use Rattle.rulebook.specs.Rulebooks.{side_of, KeptTable, KeptSide}
-use Rattle.rulebook.specs.Tables.{stretch_of, latest, Grew}
+use Rattle.rulebook.specs.Tables.{stretch_of, latest}
 use Rattle.rulebook.specs.declared.records.SideRecord.{SideRecord}
 use Rattle.rulebook.specs.declared.rulebook.SideTables.{SideTables}
 use Rattle.rulebook.specs.declared.stroke.Stroke.{Stroke}
 use Rattle.rulebook.specs.declared.stroke.Stroke.TheVariants.{Mark, Cut}
 use Rattle.rulebook.specs.declared.table.Stretch.{Stretch}
 use Rattle.rulebook.specs.declared.table.Table.{Table}
-use Rattle.rulebook.proofs.Chaining.{at_end, grown_before, grown_kept, closed_kept, last_is, stayed_kept}
+use Rattle.rulebook.proofs.Chaining.{grown_before, grown_kept, closed_kept, last_is, stayed_kept}
 
 abbrev mark_stretch : SideRecord → Stretch
 mark_stretch s = s.marks

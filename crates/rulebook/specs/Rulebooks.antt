@@ -1,5 +1,5 @@
 -- What a rulebook holds, and when its records fit its tables.
-use Rattle.std.specs.Prelude.{◌≡◌, ℕ, ◌+◌, ◌<◌, ◌≤◌, true, List, [], ◌∷◌, ◌++◌, map, length, take, Some, None, Option}
+use Rattle.std.specs.Prelude.{◌≡◌, ℕ, ◌≤◌, true, List, [], ◌∷◌, map, length, take, Some, None, Option}
 use Rattle.kinds.specs.Model.{KindModel}
 use Rattle.sheets.specs.Cover.{canonical}
 use Rattle.grammar.specs.Numbers.{nth}

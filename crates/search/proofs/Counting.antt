@@ -4,7 +4,6 @@ use Rattle.std.proofs.lemmas.List.{drop_more, take_more, set_at, length-take-le}
 use Rattle.std.proofs.lemmas.Bool.{cases_lt, cases_order}
 use Rattle.lattice.specs.declared.placement.Placement.{Placement}
 use Rattle.lattice.specs.Order.{Triple, triple, Before, Earlier}
-use Rattle.lattice.specs.Turns.{across}
 use Rattle.kinds.specs.Model.{KindModel}
 use Rattle.grammar.specs.Numbers.{nth}
 use Rattle.grammar.specs.Places.{Numbered, Least}

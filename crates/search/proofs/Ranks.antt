@@ -3,7 +3,6 @@ use Rattle.std.proofs.Common.{◌≡◌, ℕ, ◌+◌, ◌*◌, ◌<◌, ◌⊎�
 use Rattle.std.proofs.lemmas.Int.{ints}
 use Rattle.lattice.specs.declared.placement.Placement.{Placement}
 use Rattle.lattice.specs.Order.{Triple, triple, Before}
-use Rattle.lattice.specs.Turns.{across}
 use Rattle.lattice.proofs.Bounds.{shifting_parts}
 use Rattle.grammar.proofs.Placements.{turn_below}
 

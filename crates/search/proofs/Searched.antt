@@ -22,7 +22,6 @@ use Rattle.grammar.specs.Places.{LeastOf, Place, Least}
 use Rattle.grammar.specs.Sets.{Set}
 use Rattle.grammar.proofs.Landings.{covers_field}
 use Rattle.grammar.proofs.Numbers.{none_some}
-use Rattle.grammar.proofs.Record.{moves}
 use Rattle.search.specs.Scenes.{sought, drawn, Fits}
 use Rattle.search.specs.Steps.{Lands, Turned, Improves, FirstAtom}
 use Rattle.search.proofs.Best.{least_same, improves_same, improves_none, improves_nothing, improves_both}

@@ -1,5 +1,5 @@
 -- Turned edges, and shifts from one edge to another.
-use Rattle.std.proofs.Common.{◌≡◌, ℕ, ◌<◌, ◌≤◌, Bool, true, false, cond, ◌&&◌, ℤ, pos, ◌+ℤ◌, ◌-ℤ◌, neg_ℤ, nat_abs, Some, None, sym, refl, ap, ◌∙◌, subst, arith}
+use Rattle.std.proofs.Common.{◌≡◌, ℕ, ◌<◌, ◌≤◌, Bool, true, false, cond, ℤ, pos, ◌+ℤ◌, ◌-ℤ◌, neg_ℤ, nat_abs, Some, None, sym, refl, ap, ◌∙◌, subst, arith}
 use lib.IntN.{+ℤ_idr}
 use Rattle.std.proofs.lemmas.Int.{ints}
 use Rattle.std.proofs.lemmas.Bool.{and_parts, and_from, both_ways}
@@ -9,8 +9,8 @@ use Rattle.lattice.specs.Turns.{across, upward}
 use Rattle.lattice.proofs.Bounds.{ranged_size}
 use Rattle.lattice.proofs.Turning.{across_plus, upward_plus, ranged_turned, turned_sizes}
 use Rattle.kinds.specs.Answers.{Shifts}
-use Rattle.segments.specs.Directions.{forward, direction}
-use Rattle.segments.specs.Edges.{edge, oriented, edge_image, edge_proper, ends_lie, edge_field}
+use Rattle.segments.specs.Directions.{forward}
+use Rattle.segments.specs.Edges.{edge, oriented, edge_image, ends_lie, edge_field}
 use Rattle.segments.specs.Segments.{segment_model}
 use Rattle.segments.specs.declared.segment.Edge.{Edge}
 use Rattle.segments.specs.DirectionsLemmas.{gcd_neg, gcd_of, gcd_turned, direction_from}

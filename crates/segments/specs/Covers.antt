@@ -1,12 +1,12 @@
 -- The unit edges that a segment covers.
-use Rattle.std.specs.Prelude.{◌≡◌, true, ℤ, pos, ◌+ℤ◌, ◌-ℤ◌, ◌≤ℤ◌, ◌<ℤ◌, refl}
-use Rattle.std.proofs.Common.{sym, ap, ◌∙◌, arith}
+use Rattle.std.specs.Prelude.{◌≡◌, ℤ, pos, ◌+ℤ◌, ◌-ℤ◌, ◌≤ℤ◌, ◌<ℤ◌}
+use Rattle.std.proofs.Common.{sym, ◌∙◌, arith}
 use Rattle.std.proofs.lemmas.Int.{ints}
 use Rattle.kinds.specs.Rules.{Ordered, Covers}
 use Rattle.elements.specs.Orders.{ordered_numbers, ordered_then}
 use Rattle.elements.specs.PointRules.{pairs}
 use Rattle.elements.specs.Covering.{Covered, covered, covered_from}
-use Rattle.segments.specs.Edges.{along, line, line_order, edge_position}
+use Rattle.segments.specs.Edges.{along, line_order, edge_position}
 use Rattle.segments.specs.Segments.{first, segment_model}
 use Rattle.segments.specs.declared.segment.Edge.{Edge}
 use Rattle.segments.specs.declared.segment.Segment.{Segment}

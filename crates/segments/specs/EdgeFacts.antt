@@ -1,19 +1,18 @@
 -- Unit edges, their lines, and the edges of a segment.
-use Rattle.std.specs.Prelude.{◌≡◌, ℕ, zero, suc, ◌<◌, Bool, true, false, cond, ◌&&◌, ◌⊎◌, ℤ, pos, negsuc, ◌+ℤ◌, ◌-ℤ◌, ◌*ℤ◌, neg_ℤ, ◌≤ℤ◌, ◌<ℤ◌, int_lt, refl}
-use Rattle.std.proofs.Common.{sym, ap, subst, ◌∙◌, inl, inr, ⊎_elim, arith}
+use Rattle.std.specs.Prelude.{◌≡◌, true, ◌&&◌, ℤ, pos, ◌+ℤ◌, ◌-ℤ◌, ◌*ℤ◌, neg_ℤ, ◌≤ℤ◌, ◌<ℤ◌, int_lt}
+use Rattle.std.proofs.Common.{sym, ap, ◌∙◌, ⊎_elim, arith}
 use Rattle.std.proofs.Math.IntN.{*ℤ_comm}
-use Rattle.std.specs.Int.Signed.{le_z}
 use Rattle.std.specs.Int.{int_div_euclid}
 use Rattle.std.proofs.lemmas.Int.{ints, by_lt_z}
-use Rattle.std.proofs.lemmas.Bool.{and_parts, and_from, cond-true, cond-false}
-use Rattle.numbers.proofs.Ring.{plus_times, times_plus, neg_times, times_neg, times_times, times_upto, times_same}
+use Rattle.std.proofs.lemmas.Bool.{and_from, cond-true, cond-false}
+use Rattle.numbers.proofs.Ring.{plus_times, times_plus, times_neg, times_times, times_upto, times_same}
 use Rattle.numbers.proofs.Floors.{floor_more, floor_near, coprime_small}
-use Rattle.numbers.proofs.Tested.{lt_test, le_test, not_lt_test, not_le_test}
+use Rattle.numbers.proofs.Tested.{lt_test, not_lt_test}
 use Rattle.lattice.specs.Field.{ranged}
 use Rattle.lattice.proofs.Bounds.{ranged_parts, ranged_from}
-use Rattle.segments.specs.Directions.{forward, direction}
+use Rattle.segments.specs.Directions.{direction}
 use Rattle.segments.specs.Edges.{edge, along, line, edge_position, edge_proper, ends_lie, edge_field}
-use Rattle.segments.specs.Segments.{first, segment_model}
+use Rattle.segments.specs.Segments.{first}
 use Rattle.segments.specs.declared.segment.Edge.{Edge}
 use Rattle.segments.specs.declared.segment.Segment.{Segment}
 use Rattle.segments.specs.DirectionsLemmas.{direction_cases, gcd_of}

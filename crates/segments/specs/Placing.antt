@@ -1,7 +1,6 @@
 -- Where placements take segments.
-use Rattle.std.specs.Prelude.{◌≡◌, ℕ, ◌<◌, Bool, true, false, cond, ◌↔◌, ℤ, pos, negsuc, ◌+ℤ◌, ◌-ℤ◌, ◌*ℤ◌, neg_ℤ, ◌≤ℤ◌, ◌<ℤ◌, Some, None, Option, ◌≢◌, unsigned_abs, refl}
+use Rattle.std.specs.Prelude.{◌≡◌, ℕ, ◌<◌, true, false, ◌↔◌, ℤ, pos, negsuc, ◌+ℤ◌, ◌-ℤ◌, ◌*ℤ◌, neg_ℤ, ◌≤ℤ◌, ◌<ℤ◌, Some, None, ◌≢◌, unsigned_abs, refl}
 use Rattle.std.proofs.Common.{sym, ap, subst, ◌∙◌, ⊎_elim, arith}
-use Rattle.std.specs.Int.Signed.{lt_z}
 use Rattle.std.proofs.lemmas.Int.{ints}
 use Rattle.std.proofs.lemmas.Bool.{cond-true, cond-false, cases_Bool}
 use Rattle.numbers.specs.Gcd.{gcd}
@@ -14,9 +13,9 @@ use Rattle.segments.specs.Edges.{edge, along, edge_image, edge_field}
 use Rattle.segments.specs.Segments.{first, upper_x, upper_y, segment, segment_image, segment_model}
 use Rattle.segments.specs.declared.segment.Edge.{Edge}
 use Rattle.segments.specs.declared.segment.Segment.{Segment}
-use Rattle.segments.specs.Covers.{Kth, along_covered, covered_along}
+use Rattle.segments.specs.Covers.{along_covered, covered_along}
 use Rattle.segments.specs.DirectionsLemmas.{gcd_neg, gcd_of, gcd_turned, turned_back, direction_from}
-use Rattle.segments.specs.Fitting.{Numbers, Passes, segment_some, segment_refused}
+use Rattle.segments.specs.Fitting.{segment_some, segment_refused}
 use Rattle.segments.specs.Images.{kept, flipped, across_along, upward_along, image_along, oriented_ends}
 
 -- r covers exactly the images of what e covers

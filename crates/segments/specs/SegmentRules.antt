@@ -1,6 +1,6 @@
 -- Segments keep the rules.
-use Rattle.std.specs.Prelude.{◌≡◌, ℕ, ◌<◌, Bool, true, false, cond, ◌&&◌, ◌↔◌, ℤ, pos, negsuc, ◌+ℤ◌, ◌-ℤ◌, neg_ℤ, ◌≤ℤ◌, ◌<ℤ◌, Some, None, Option, int_lt, refl}
-use Rattle.std.proofs.Common.{sym, ap, subst, ◌∙◌, ⊎_elim, arith}
+use Rattle.std.specs.Prelude.{◌≡◌, ℕ, ◌<◌, Bool, true, false, cond, ℤ, pos, negsuc, ◌+ℤ◌, neg_ℤ, ◌≤ℤ◌, ◌<ℤ◌, Some, None, Option, int_lt, refl}
+use Rattle.std.proofs.Common.{sym, ap, ◌∙◌, arith}
 use Rattle.std.proofs.lemmas.Int.{ints}
 use Rattle.std.proofs.lemmas.Bool.{and_parts, both_ways}
 use Rattle.lattice.specs.Turns.{across, upward}
@@ -12,7 +12,7 @@ use Rattle.kinds.specs.Rules.{Rules, Covers}
 use Rattle.elements.specs.Covering.{same_stretch}
 use Rattle.segments.specs.Directions.{forward}
 use Rattle.segments.specs.Edges.{edge, along, edge_position, edge_proper, ends_lie, edge_field, edge_image}
-use Rattle.segments.specs.Segments.{first, segment_image, segment_model}
+use Rattle.segments.specs.Segments.{first, segment_model}
 use Rattle.segments.specs.declared.segment.Edge.{Edge}
 use Rattle.segments.specs.declared.segment.Segment.{Segment}
 use Rattle.segments.specs.Covers.{lines, whole, along_covered, covered_along}

@@ -4,7 +4,6 @@ use Rattle.lattice.specs.Field.{ranged}
 use Rattle.lattice.specs.Refusals.{number}
 use Rattle.lattice.specs.Turns.{across, upward}
 use Rattle.lattice.specs.Valid.{tested}
-use Rattle.lattice.specs.declared.placement.Placement.{Placement}
 use Rattle.lattice.specs.declared.refusal.Refusal.{Refusal}
 use Rattle.numbers.specs.Gcd.{gcd}
 use Rattle.kinds.specs.Model.{KindModel}

@@ -1,7 +1,7 @@
 -- Joins and parts of segments.
 use Rattle.std.specs.Prelude.{◌≡◌, Bool, true, false, cond, ℤ, pos, ◌+ℤ◌, ◌-ℤ◌, ◌*ℤ◌, ◌≤ℤ◌, ◌<ℤ◌, int_lt, refl}
-use Rattle.std.proofs.Common.{sym, ap, subst, ◌∙◌, ⊎_elim, arith}
-use Rattle.std.specs.Int.{int_max, int_min}
+use Rattle.std.proofs.Common.{sym, ap, ◌∙◌, ⊎_elim, arith}
+use Rattle.std.specs.Int.{int_max}
 use Rattle.std.proofs.lemmas.Int.{ints}
 use Rattle.std.proofs.lemmas.Bool.{cond-true, cond-false, cases_Bool}
 use Rattle.numbers.proofs.Ring.{plus_times}
@@ -9,7 +9,7 @@ use Rattle.numbers.proofs.Tested.{lt_test}
 use Rattle.lattice.specs.Field.{ranged}
 use Rattle.kinds.specs.Rules.{Touch, Union, Stretch, Slice}
 use Rattle.elements.specs.Covering.{union_from, slice_from}
-use Rattle.segments.specs.Edges.{edge, along, line, edge_position}
+use Rattle.segments.specs.Edges.{along, line, edge_position}
 use Rattle.segments.specs.Segments.{first, upper_x, upper_y, segment_model}
 use Rattle.segments.specs.declared.segment.Edge.{Edge}
 use Rattle.segments.specs.declared.segment.Segment.{Segment}

@@ -1,5 +1,5 @@
 -- Lists in canonical form, all pairs at once.
-use Rattle.std.proofs.Common.{◌≡◌, true, false, ◌⊎◌, List, [], ◌∷◌, ◌++◌, ◌<ℤ◌, refl, subst, inl, inr, ⊎_elim}
+use Rattle.std.proofs.Common.{◌≡◌, true, ◌⊎◌, List, [], ◌∷◌, ◌++◌, ◌<ℤ◌, refl, subst, inl, inr, ⊎_elim}
 use Rattle.std.specs.List.{AllByRecursion as All}
 use Rattle.std.proofs.lemmas.Bool.{false≢true, and_parts, and_from, or_cases}
 use Rattle.std.proofs.ByRecursion.{All-weaker, All-append}

@@ -1,9 +1,9 @@
 -- A sheet opened and written.
-use Rattle.std.proofs.Common.{◌≡◌, ℕ, ◌+◌, ◌-◌, ◌≤◌, min, List, length, take, ap, ◌∙◌, arith}
+use Rattle.std.proofs.Common.{◌≡◌, ℕ, ◌+◌, ◌≤◌, min, List, length, take, ap, ◌∙◌, arith}
 use Rattle.std.proofs.lemmas.List.{length-take}
 use Rattle.lattice.specs.declared.refusal.Refusal.{Refusal}
 use Rattle.sheets.specs.declared.sheet.Sheet.{Sheet}
-use Rattle.sheets.specs.Contents.{items, room}
+use Rattle.sheets.specs.Contents.{items}
 use Rattle.sheets.specs.Put.{Opened, Shut, Put, NoPut, with_put}
 use Rattle.sheets.proofs.Spliced.{clamped, written, length_written, spliced, length_moved, length_with}
 

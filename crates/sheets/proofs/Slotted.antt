@@ -1,11 +1,11 @@
 -- A sum on slots is the sum of the sheet over them.
-use Rattle.std.proofs.Common.{◌≡◌, ℕ, ◌<◌, ◌≤◌, min, Bool, true, ◌⊎◌, List, [], length, take, sym, refl, ap, ◌∙◌, subst, inl, inr, ⊎_elim, arith}
+use Rattle.std.proofs.Common.{◌≡◌, ℕ, ◌<◌, ◌≤◌, ◌⊎◌, List, length, take, sym, ap, ◌∙◌, subst, ⊎_elim, arith}
 use Rattle.std.proofs.lemmas.List.{length-take, take_all}
 use Rattle.lattice.specs.declared.refusal.Refusal.{Refusal}
 use Rattle.kinds.specs.Model.{KindModel, covers}
 use Rattle.sheets.specs.Contents.{items, covered, Sound, Became, Refused}
-use Rattle.sheets.specs.Cover.{union, cover, canonical}
-use Rattle.sheets.specs.Maximal.{Lists, Same}
+use Rattle.sheets.specs.Cover.{union}
+use Rattle.sheets.specs.Maximal.{Lists}
 use Rattle.sheets.specs.Slots.{SlotsBecame, SlotsStayed}
 use Rattle.sheets.specs.declared.sheet.Sheet.{Sheet}
 

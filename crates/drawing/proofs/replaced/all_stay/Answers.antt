@@ -1,4 +1,4 @@
-use Rattle.std.proofs.Common.{sym, arith}
+use Rattle.std.proofs.Common.{sym}
 use Rattle.drawing.proofs.Stays.{stays_more, stays_not, stays_all}
 use Rattle.drawing.proofs.replaced.all_stay.Goals as goal
 

@@ -1,4 +1,4 @@
-use Rattle.std.proofs.Common.{Bool, arith}
+use Rattle.std.proofs.Common.{arith}
 use Rattle.sheets.specs.Contents.{covered}
 use Rattle.sheets.specs.Cover.{difference}
 use Rattle.drawing.proofs.Turns.{off_more, turned_all}

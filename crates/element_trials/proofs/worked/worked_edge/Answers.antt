@@ -1,4 +1,4 @@
-use Rattle.std.proofs.Common.{◌≡◌, ◌∙◌, w32, SFits, rules}
+use Rattle.std.proofs.Common.{◌∙◌, w32, SFits, rules}
 use Rattle.std.proofs.lemmas.Int.{to_z-of_z}
 use Rattle.element_trials.proofs.Edge.{worked}
 use Rattle.element_trials.proofs.worked.worked_edge.Goals as goal

@@ -1,4 +1,4 @@
-use Rattle.std.proofs.Common.{◌^◌, ◌<◌, ◌≤◌, length, arith, rules}
+use Rattle.std.proofs.Common.{◌^◌, ◌<◌, arith, rules}
 use Rattle.output.proofs.Spelling.{one_length, more_length, one_written, more_written}
 use Rattle.output.proofs.numbers.+write_natural.Goals as goal
 

@@ -1,4 +1,4 @@
-use Rattle.std.proofs.Common.{◌≡◌, true, false, sym, ◌∙◌, arith}
+use Rattle.std.proofs.Common.{sym, ◌∙◌, arith}
 use Rattle.std.proofs.lemmas.Bool.{true≢false}
 use Rattle.reading.proofs.Splitting.{no_two, no_more, not_one}
 use Rattle.reading.proofs.fields.two_fields.Goals as goal

@@ -6,7 +6,7 @@ use Rattle.kinds.specs.Model.{KindModel, covers}
 use Rattle.kinds.specs.Rules.{Rules}
 use Rattle.sheets.specs.Cover.{cover}
 use Rattle.sheets.specs.Maximal.{Part}
-use Rattle.search.specs.Scenes.{Onto, drawn}
+use Rattle.search.specs.Scenes.{Onto}
 use Rattle.search.proofs.Searched.{cover_more, cover_at, put_inside, inside_put, no_put}
 use Rattle.search.proofs.scene.is_onto.Goals as goal
 

@@ -1,4 +1,4 @@
-use Rattle.std.proofs.Common.{◌≡◌, ℤ, ◌+ℤ◌, ◌*ℤ◌, refl, arith, w32, SFits, rules}
+use Rattle.std.proofs.Common.{◌+ℤ◌, ◌*ℤ◌, refl, arith, w32, SFits, rules}
 use Rattle.std.proofs.lemmas.Int.{ints, to_z-of_z}
 use Rattle.lattice.proofs.Bounds.{ranged_parts}
 use Rattle.segments.proofs.Sizes.{size_way}

@@ -1,4 +1,4 @@
-use Rattle.std.proofs.Common.{◌≡◌, ◌≤◌, ℤ, ◌+ℤ◌, ◌*ℤ◌, nat_abs, refl, arith, w64, SFits, rules}
+use Rattle.std.proofs.Common.{◌≤◌, ℤ, ◌+ℤ◌, ◌*ℤ◌, nat_abs, refl, arith, w64, SFits, rules}
 use Rattle.std.proofs.lemmas.Int.{ints, to_z-of_z}
 use Rattle.lattice.proofs.Bounds.{ranged_size}
 use Rattle.segments.proofs.Sizes.{size_product}

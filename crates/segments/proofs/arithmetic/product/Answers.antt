@@ -1,4 +1,4 @@
-use Rattle.std.proofs.Common.{◌≡◌, ℤ, ◌*ℤ◌, refl, arith, w32, SFits, rules}
+use Rattle.std.proofs.Common.{◌*ℤ◌, refl, arith, w32, SFits, rules}
 use Rattle.std.proofs.lemmas.Int.{ints, to_z-of_z}
 use Rattle.segments.proofs.Sizes.{size_product}
 use Rattle.segments.proofs.arithmetic.product.Goals as goal

@@ -1,4 +1,4 @@
-use Rattle.std.proofs.Common.{◌≡◌, ℤ, sym, ap, ◌∙◌, to_z-of_z, w32, SFits, rules}
+use Rattle.std.proofs.Common.{ℤ, sym, ap, ◌∙◌, to_z-of_z, w32, SFits, rules}
 use Rattle.grammar.specs.Numbers.{nth, ordinal}
 use Rattle.rulebook.specs.Rulebooks.{rules_of}
 use Rattle.drawing.proofs.Undoes.{redone_some, redone_none}

@@ -1,4 +1,4 @@
-use Rattle.std.proofs.Common.{◌≡◌, ℤ, sym, refl, ap, ◌∙◌, to_z-of_z}
+use Rattle.std.proofs.Common.{ℤ, sym, refl, ap, ◌∙◌, to_z-of_z}
 use Rattle.grammar.specs.Numbers.{nth, ordinal}
 use Rattle.rulebook.specs.Rulebooks.{rules_of}
 use Rattle.drawing.proofs.Picks.{pick_missing, pick_named}

@@ -1,4 +1,4 @@
-use Rattle.std.proofs.Common.{◌≡◌, sym, refl, ◌∙◌, arith, to_z-of_z}
+use Rattle.std.proofs.Common.{sym, refl, ◌∙◌, arith, to_z-of_z}
 use Rattle.std.proofs.lemmas.Bool.{false≢true}
 use Rattle.drawing.proofs.Picks.{pick_leaves, pick_full, pick_crowded, pick_done}
 use Rattle.drawing.proofs.drawing.Drawing.apply_found.Goals as goal

@@ -1,4 +1,4 @@
-use Rattle.std.proofs.Common.{◌≡◌, sym, refl, ap, ◌∙◌, to_z-of_z}
+use Rattle.std.proofs.Common.{to_z-of_z}
 use Rattle.drawing.proofs.Asked.{seeks_named, barred_named, count_done, count_barred}
 use Rattle.drawing.proofs.drawing.Drawing.count.Goals as goal
 

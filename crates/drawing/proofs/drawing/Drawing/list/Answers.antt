@@ -1,4 +1,4 @@
-use Rattle.std.proofs.Common.{◌≡◌, sym, refl, ap, ◌∙◌, to_z-of_z}
+use Rattle.std.proofs.Common.{refl, to_z-of_z}
 use Rattle.drawing.proofs.Asked.{seeks_named, barred_named, list_goes, list_barred}
 use Rattle.drawing.proofs.drawing.Drawing.list.Goals as goal
 

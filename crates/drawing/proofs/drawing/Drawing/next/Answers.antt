@@ -1,4 +1,4 @@
-use Rattle.std.proofs.Common.{◌≡◌, sym, refl, ap, ◌∙◌, to_z-of_z}
+use Rattle.std.proofs.Common.{to_z-of_z}
 use Rattle.search.specs.Steps.{bound}
 use Rattle.drawing.proofs.Asked.{seeks_named, barred_named, next_done, next_barred}
 use Rattle.drawing.proofs.drawing.Drawing.next.Goals as goal

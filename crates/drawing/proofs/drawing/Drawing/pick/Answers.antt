@@ -1,4 +1,4 @@
-use Rattle.std.proofs.Common.{◌≡◌, sym, refl, ap, ◌∙◌, to_z-of_z}
+use Rattle.std.proofs.Common.{to_z-of_z}
 use Rattle.drawing.proofs.Picks.{pick_goes}
 use Rattle.drawing.proofs.drawing.Drawing.pick.Goals as goal
 

@@ -1,4 +1,4 @@
-use Rattle.std.proofs.Common.{◌≡◌, ℤ, sym, refl, ap, ◌∙◌, to_z-of_z}
+use Rattle.std.proofs.Common.{ℤ, ap, ◌∙◌, to_z-of_z}
 use Rattle.grammar.specs.Numbers.{nth, ordinal}
 use Rattle.drawing.proofs.Asked.{seeks_named, barred_named, place_found, place_missing, pick_barred}
 use Rattle.drawing.proofs.drawing.Drawing.place.Goals as goal

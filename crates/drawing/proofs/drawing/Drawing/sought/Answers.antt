@@ -1,4 +1,4 @@
-use Rattle.std.proofs.Common.{◌≡◌, ℤ, sym, ap, ◌∙◌, to_z-of_z}
+use Rattle.std.proofs.Common.{ℤ, sym, ap, ◌∙◌, to_z-of_z}
 use Rattle.grammar.specs.Numbers.{nth, ordinal}
 use Rattle.rulebook.specs.Rulebooks.{rules_of}
 use Rattle.drawing.proofs.Asked.{seeks_marks, seeks_cuts, barred_empty, barred_missing}

@@ -1,4 +1,4 @@
-use Rattle.std.proofs.Common.{◌≡◌, Decides, subst, w32, SFits, rules}
+use Rattle.std.proofs.Common.{Decides, subst, w32, SFits, rules}
 use Rattle.std.proofs.lemmas.Int.{to_z-of_z}
 use Rattle.lattice.specs.Order.{Triple, Before, read}
 use Rattle.lattice.proofs.placement.Placement.after.Goals as goal

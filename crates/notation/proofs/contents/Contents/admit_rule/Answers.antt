@@ -1,4 +1,4 @@
-use Rattle.std.proofs.Common.{arith, rules}
+use Rattle.std.proofs.Common.{rules}
 use Rattle.notation.proofs.Taking.{rule_last}
 use Rattle.notation.proofs.contents.Contents.admit_rule.Goals as goal
 

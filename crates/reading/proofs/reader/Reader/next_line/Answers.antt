@@ -1,6 +1,6 @@
-use Rattle.std.proofs.Common.{◌≡◌, ℕ, ◌+◌, ◌-◌, ◌<◌, length, take, sym, refl, ap, ◌∙◌, arith, rules}
+use Rattle.std.proofs.Common.{◌≡◌, ℕ, ◌+◌, ◌-◌, ◌<◌, length, take, sym, refl, ap, ◌∙◌, arith}
 use Rattle.std.proofs.lemmas.List.{take_all}
-use Rattle.notation.specs.Lines.{line_length, first_line}
+use Rattle.notation.specs.Lines.{line_length}
 use Rattle.reading.specs.Readers.{rest}
 use Rattle.reading.proofs.Counting.{count_line, count_ended, newlines_le, is_ended_yes, is_ended_no, after_ended, after_last, next_number, same_number}
 use Rattle.reading.proofs.reader.Reader.next_line.Goals as goal

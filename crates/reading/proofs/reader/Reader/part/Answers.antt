@@ -1,4 +1,4 @@
-use Rattle.std.proofs.Common.{◌≡◌, ℕ, ◌+◌, ◌-◌, min, max, List, length, take, drop, ap, ◌∙◌, arith}
+use Rattle.std.proofs.Common.{ℕ, ◌+◌, ◌-◌, max, List, take, drop, ap, ◌∙◌}
 use Rattle.notation.specs.Lines.{newlines}
 use Rattle.reading.proofs.Stretches.{front_clipped, stretch_clipped}
 use Rattle.reading.proofs.reader.Reader.part.Goals as goal

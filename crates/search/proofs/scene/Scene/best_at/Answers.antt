@@ -4,7 +4,6 @@ use Rattle.std.proofs.lemmas.Int.{to_z-of_z}
 use Rattle.std.proofs.lemmas.Bool.{both_ways}
 use Rattle.lattice.specs.declared.turn.Turn.{Turn}
 use Rattle.kinds.specs.Answers.{AtomAt}
-use Rattle.grammar.proofs.Numbers.{later}
 use Rattle.search.specs.Scenes.{Fits}
 use Rattle.search.specs.Steps.{bound}
 use Rattle.search.proofs.Best.{improves_nothing, improves_tried}

@@ -1,7 +1,6 @@
 -- Position by position.
 use Rattle.std.proofs.Common.{arith}
 use Rattle.std.proofs.lemmas.Int.{ints}
-use Rattle.grammar.proofs.Numbers.{later}
 use Rattle.search.specs.Scenes.{Fits}
 use Rattle.search.specs.Steps.{bound}
 use Rattle.search.proofs.Searched.{under_none, under_more, under_all}

@@ -2,7 +2,6 @@
 use Rattle.std.proofs.Common.{◌≡◌, true, subst, arith, take_all}
 use Rattle.sheets.specs.Cover.{cover}
 use Rattle.grammar.specs.Places.{LeastOf}
-use Rattle.grammar.proofs.Numbers.{later}
 use Rattle.search.specs.Scenes.{Fits}
 use Rattle.search.specs.Steps.{bound, Turned}
 use Rattle.search.proofs.Searched.{list_more}

@@ -1,7 +1,6 @@
 -- Whether the candidate is after the bound, before the best, and fits.
 use Rattle.std.proofs.Common.{refl, inl, inr}
 use Rattle.std.proofs.lemmas.Bool.{both_ways}
-use Rattle.grammar.proofs.Numbers.{later}
 use Rattle.search.proofs.scene.Scene.improved.Goals as goal
 
 pub returns-then-not-is_after : goal.returns-then-not-is_after

@@ -1,6 +1,5 @@
 -- The search starts from an atom of the left side's marks, else of its cuts.
 use Rattle.grammar.proofs.Landings.{covers_field}
-use Rattle.grammar.proofs.Numbers.{later}
 use Rattle.search.specs.Steps.{bound}
 use Rattle.search.proofs.Searched.{by_marks, by_cuts}
 use Rattle.search.proofs.scene.Scene.next.Goals as goal

@@ -1,4 +1,4 @@
-use Rattle.std.proofs.Common.{◌≡◌, Bool, true, ◌&&◌, ℤ, ◌+ℤ◌, sym, ap, ◌∙◌, w32, w64, SFits, rules}
+use Rattle.std.proofs.Common.{◌≡◌, Bool, true, ◌&&◌, ◌+ℤ◌, sym, ap, ◌∙◌, w32, w64, SFits, rules}
 use Rattle.std.proofs.lemmas.Int.{to_z-of_z}
 use Rattle.lattice.specs.Field.{ranged}
 use Rattle.segments.proofs.segment.Edge.ends_lie.Goals as goal

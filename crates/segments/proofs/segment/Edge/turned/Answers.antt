@@ -1,7 +1,6 @@
-use Rattle.std.proofs.Common.{◌≡◌, ◌≤◌, ℤ, nat_abs, sym, ap, ◌∙◌, subst, w32, w64, SFits, rules}
+use Rattle.std.proofs.Common.{◌≤◌, ℤ, nat_abs, sym, ap, ◌∙◌, subst, w32, w64, SFits, rules}
 use Rattle.std.proofs.lemmas.Int.{to_z-of_z}
 use Rattle.lattice.specs.Field.{ranged}
-use Rattle.lattice.specs.Turns.{across, upward}
 use Rattle.lattice.proofs.Turning.{below_eight}
 use Rattle.segments.specs.Edges.{oriented}
 use Rattle.segments.specs.declared.segment.Edge.{Edge}

@@ -1,15 +1,8 @@
-use Rattle.std.proofs.Common.{◌≡◌, ℕ, ◌<◌, ◌≤◌, true, false, ℤ, pos, negsuc, ◌+ℤ◌, ◌-ℤ◌, ◌*ℤ◌, neg_ℤ, nat_abs, ◌≤ℤ◌, ◌<ℤ◌, sym, refl, ap, ◌∙◌, subst, arith, w32, SFits, to_z, of_z, rules}
-use lib.Signed.{lt_z}
+use Rattle.std.proofs.Common.{◌≡◌, ℤ, pos, negsuc, ◌+ℤ◌, ◌≤ℤ◌, ◌<ℤ◌, sym, ◌∙◌, subst, arith, w32, SFits, to_z, of_z, rules}
 use Rattle.std.proofs.lemmas.Int.{ints, to_z-of_z}
-use Rattle.numbers.proofs.Tested.{lt_test}
-use Rattle.lattice.specs.Field.{ranged}
-use Rattle.lattice.proofs.Bounds.{ranged_parts, ranged_size}
-use Rattle.segments.specs.Directions.{direction}
-use Rattle.segments.specs.Edges.{edge, along, position, edge_position}
+use Rattle.segments.specs.Edges.{edge_position}
 use Rattle.segments.specs.Segments.{first}
-use Rattle.segments.specs.EdgeFacts.{ranged_along}
-use Rattle.segments.specs.Positions.{start_low, start_high, end_high}
-use Rattle.segments.proofs.Sizes.{size_dx, size_dy}
+use Rattle.segments.specs.Positions.{start_low, end_high}
 use Rattle.segments.proofs.segment.Segment.ends.Goals as goal
 
 sums : (s n r : ℤ) → pos 0 <ℤ n → negsuc 1999 ≤ℤ s → (s +ℤ n) ≤ℤ pos 2001 → r ≡ s +ℤ n → (negsuc 1999 ≤ℤ r) × (r ≤ℤ pos 2001) × SFits w32 r

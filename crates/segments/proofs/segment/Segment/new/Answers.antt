@@ -1,4 +1,4 @@
-use Rattle.std.proofs.Common.{◌≡◌, Bool, true, false, ◌&&◌, ◌-ℤ◌, MatchBool, sym, ap, ◌∙◌, subst, ⊎_elim, w32, SFits, of_z, rules}
+use Rattle.std.proofs.Common.{◌≡◌, Bool, true, false, ◌-ℤ◌, MatchBool, sym, ap, ◌∙◌, subst, ⊎_elim, w32, SFits, of_z, rules}
 use Rattle.std.proofs.lemmas.Int.{to_z-of_z}
 use Rattle.segments.specs.Directions.{forward}
 use Rattle.segments.specs.Segments.{all_ranged, Spans}

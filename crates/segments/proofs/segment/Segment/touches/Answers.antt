@@ -1,8 +1,7 @@
-use Rattle.std.proofs.Common.{◌≡◌, true, ℤ, ◌+ℤ◌, ◌-ℤ◌, ◌*ℤ◌, ◌≤ℤ◌, sym, ◌∙◌, arith, w32, SFits, to_z, of_z, rules}
+use Rattle.std.proofs.Common.{◌≡◌, true, ℤ, ◌-ℤ◌, ◌*ℤ◌, ◌≤ℤ◌, sym, ◌∙◌, arith, w32, SFits, to_z, of_z, rules}
 use lib.Signed.{le_z}
 use Rattle.std.proofs.lemmas.Int.{ints, to_z-of_z}
 use Rattle.numbers.proofs.Tested.{le_test}
-use Rattle.segments.specs.Segments.{first}
 use Rattle.segments.specs.Stretches.{starting, ending}
 use Rattle.segments.proofs.segment.Segment.touches.Goals as goal
 

@@ -1,10 +1,10 @@
-use Rattle.std.proofs.Common.{◌≡◌, ◌≤◌, true, false, ℤ, pos, ◌+ℤ◌, ◌*ℤ◌, nat_abs, sym, refl, ap, ◌∙◌, arith, w32, w64, SFits, to_z, of_z, rules}
+use Rattle.std.proofs.Common.{◌≡◌, ◌≤◌, true, false, ℤ, pos, ◌+ℤ◌, ◌*ℤ◌, nat_abs, sym, refl, ap, ◌∙◌, arith, w32, w64, SFits, rules}
 use lib.Signed.{le_z, lt_z}
 use Rattle.std.proofs.lemmas.Int.{ints, to_z-of_z}
 use Rattle.std.proofs.lemmas.Bool.{both_ways}
 use Rattle.lattice.specs.Field.{ranged}
 use Rattle.lattice.proofs.Bounds.{ranged_size}
-use Rattle.segments.specs.Fitting.{Passes, segment_is, segment_none}
+use Rattle.segments.specs.Fitting.{segment_is, segment_none}
 use Rattle.segments.proofs.segment.images.fitted.Goals as goal
 
 narrow : (z : ℤ) → nat_abs z ≤ 10000 → SFits w32 z

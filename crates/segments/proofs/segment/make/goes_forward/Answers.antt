@@ -1,4 +1,4 @@
-use Rattle.std.proofs.Common.{◌≡◌, ◌-ℤ◌, ◌∙◌, arith, w32, w64, SFits, rules}
+use Rattle.std.proofs.Common.{◌-ℤ◌, ◌∙◌, arith, w32, w64, SFits, rules}
 use Rattle.std.proofs.lemmas.Int.{ints, to_z-of_z}
 use Rattle.segments.specs.Directions.{forward}
 use Rattle.segments.proofs.segment.make.goes_forward.Goals as goal

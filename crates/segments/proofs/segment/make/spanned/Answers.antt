@@ -1,9 +1,9 @@
-use Rattle.std.proofs.Common.{◌≡◌, true, ◌&&◌, ℤ, pos, ◌+ℤ◌, ◌-ℤ◌, ◌*ℤ◌, nat_abs, refl, ap, ◌∙◌, arith, w32, SFits, to_z, of_z, rules}
-use Rattle.std.proofs.lemmas.Int.{ints, to_z-of_z, to_z_pos}
+use Rattle.std.proofs.Common.{◌≡◌, ◌&&◌, pos, ◌+ℤ◌, ◌-ℤ◌, ◌*ℤ◌, nat_abs, ap, ◌∙◌, arith, w32, SFits, to_z, rules}
+use Rattle.std.proofs.lemmas.Int.{to_z-of_z, to_z_pos}
 use Rattle.std.proofs.lemmas.Bool.{and_parts}
 use Rattle.numbers.specs.Gcd.{gcd}
 use Rattle.lattice.specs.Field.{ranged}
-use Rattle.segments.proofs.Spanning.{Spanned, spanned}
+use Rattle.segments.proofs.Spanning.{spanned}
 use Rattle.segments.proofs.segment.make.spanned.Goals as goal
 
 pub gap-h-requires : goal.gap-h-requires

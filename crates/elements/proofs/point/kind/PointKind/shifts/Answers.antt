@@ -1,4 +1,4 @@
-use Rattle.std.proofs.Common.{◌≡◌, true, false, ◌&&◌, ℤ, ◌-ℤ◌, Option, sym, ap, ◌∙◌, subst, inl, inr, w32, w64, SFits, rules}
+use Rattle.std.proofs.Common.{◌≡◌, true, false, ◌&&◌, ℤ, ◌-ℤ◌, sym, ap, ◌∙◌, subst, inl, inr, w32, w64, SFits, rules}
 use Rattle.std.proofs.lemmas.Int.{to_z-of_z}
 use Rattle.lattice.specs.Field.{ranged}
 use Rattle.lattice.specs.Turns.{across, upward}

@@ -4,10 +4,9 @@ use Rattle.std.proofs.lemmas.Int.{ints, to_z-of_z}
 use Rattle.kinds.specs.Rules.{Covers}
 use Rattle.segments.specs.Edges.{along, edge_position}
 use Rattle.segments.specs.Segments.{first, segment_model}
-use Rattle.segments.specs.declared.segment.Edge.{Edge}
 use Rattle.segments.specs.Covers.{along_covered}
 use Rattle.segments.specs.EdgeFacts.{along_at}
-use Rattle.segments.specs.Stretches.{starting, ending, again}
+use Rattle.segments.specs.Stretches.{starting, again}
 use Rattle.segments.proofs.segment.kind.SegmentKind.atom.Goals as goal
 
 low : (s at : ℤ) → lt_z at s ≡ false → pos 0 ≤ℤ (at -ℤ s)

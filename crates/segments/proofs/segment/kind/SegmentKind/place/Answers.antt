@@ -1,11 +1,11 @@
-use Rattle.std.proofs.Common.{◌≡◌, ◌≤◌, true, false, ℤ, pos, ◌+ℤ◌, ◌-ℤ◌, ◌*ℤ◌, neg_ℤ, nat_abs, sym, ap, ◌∙◌, subst, arith, w32, w64, SFits, to_z, of_z, rules}
+use Rattle.std.proofs.Common.{◌≡◌, ◌≤◌, true, false, ℤ, pos, ◌+ℤ◌, ◌-ℤ◌, neg_ℤ, nat_abs, sym, ap, ◌∙◌, subst, arith, w32, w64, SFits, to_z, of_z, rules}
 use Rattle.std.proofs.lemmas.Int.{ints, to_z-of_z}
 use Rattle.std.proofs.lemmas.Bool.{cond-true, cond-false}
 use Rattle.lattice.specs.Turns.{across, upward}
 use Rattle.lattice.specs.declared.turn.Turn.{Turn}
 use Rattle.lattice.proofs.Turning.{below_eight, turned_sizes}
 use Rattle.segments.specs.Directions.{forward, direction}
-use Rattle.segments.specs.Segments.{segment, upper_x, upper_y}
+use Rattle.segments.specs.Segments.{segment}
 use Rattle.segments.specs.Placing.{turned_direction, back_direction}
 use Rattle.segments.specs.Positions.{size_edges}
 use Rattle.segments.proofs.Sizes.{size_dx, size_dy}

@@ -4,7 +4,7 @@ use Rattle.lattice.specs.Field.{ranged}
 use Rattle.lattice.proofs.Bounds.{ranged_parts}
 use Rattle.lattice.proofs.Turning.{below_eight}
 use Rattle.segments.specs.Directions.{forward}
-use Rattle.segments.specs.Edges.{edge_field, ends_lie, edge_image}
+use Rattle.segments.specs.Edges.{edge_field, ends_lie}
 use Rattle.segments.specs.declared.segment.Edge.{Edge}
 use Rattle.segments.specs.Images.{edge_ends}
 use Rattle.segments.proofs.Shifting.{not_forward, not_across, not_up, shift_by}
