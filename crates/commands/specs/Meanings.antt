@@ -2,7 +2,7 @@
 -- the whole line: that it has not the form of a command, that a field of it is no number, that a number is out of range,
 -- that the ends of a segment are equal.
 use Rattle.std.specs.Prelude.{◌≡◌, ℕ, Bool, true, false, ◌&&◌, ◌⊎◌, List, [], ◌∷◌, ◌++◌, length, ℤ, Ok, Err, codes, Result, ◌≢◌}
-use Rattle.std.specs.List.{AllByRecursion as All}
+use Rattle.std.specs.List.{AllByRecursion}
 use Rattle.lattice.specs.Field.{ranged}
 use Rattle.lattice.specs.Refusals.{number}
 use Rattle.lattice.specs.declared.refusal.Refusal.{Refusal}
@@ -25,14 +25,14 @@ use Rattle.commands.specs.declared.StepLine.TheVariants as step
 pub record Formed (word : List ℕ) (n : ℕ) (line : List ℕ) : Type 0 where
   pub fields : List (List ℕ)
   pub many : length fields ≡ n
-  pub each : All Field fields
+  pub each : AllByRecursion Field fields
   pub text : line ≡ spaced (word ∷ fields)
 
 -- the line is the word and so many numbers behind it
 pub record Numeric (word : List ℕ) (n : ℕ) (line : List ℕ) : Type 0 where
   pub numbers : List ℤ
   pub many : length numbers ≡ n
-  pub each : All Short numbers
+  pub each : AllByRecursion Short numbers
   pub text : line ≡ command word numbers
 
 -- the numbers of a mark or of a cut are in range: the first an ink, the others coordinates

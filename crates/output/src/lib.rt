@@ -1,8 +1,8 @@
 // Drawings and refusals as text in a buffer that the caller provides.
 #![tactic(auto)]
 
-mod commands;
+mod decimals;
 mod lines;
-mod numbers;
 pub mod refusals;
 pub mod show;
+mod strokes;

@@ -3,7 +3,7 @@ ghost use Rattle.std.specs.Prelude.{◌≡◌, ℕ, ◌+◌, ◌≤◌, List, le
 ghost use Rattle.output.specs.Wrote.{Wrote};
 ghost use Rattle.output.specs.Lines.{mark_line as MarkLine, cut_line as CutLine};
 
-use crate::commands::{cut_size, mark_size, write_cut, write_mark};
+use crate::strokes::{cut_size, mark_size, write_cut, write_mark};
 use commands::{Cut, Mark};
 
 pub trait Inscribed {

@@ -3,7 +3,7 @@ ghost use Rattle.std.specs.Prelude.{◌≡◌, ◌≤◌, length};
 ghost use Rattle.output.specs.Lines.{refusal_line as RefusalLine};
 ghost use Rattle.output.specs.Shown.{Shown};
 
-use crate::commands::{natural_field_size, put, write_natural_field};
+use crate::strokes::{natural_field_size, put, write_natural_field};
 use lattice::refusal::Refusal;
 use notation::refused::Refused;
 

@@ -2,7 +2,7 @@
 use Rattle.std.proofs.Common.{◌≡◌, ℕ, zero, suc, ◌<◌, ◌≤◌, false, eqb, List, [], ◌∷◌, map, length, get_or, ℤ, pos, negsuc, decimal, sym, refl, ap, ◌∙◌, arith}
 use Rattle.std.specs.Str.Parse.{AllDigits}
 use Rattle.std.specs.Fmt.{signed_decimal}
-use Rattle.std.specs.List.{AllByRecursion as All}
+use Rattle.std.specs.List.{AllByRecursion}
 use Rattle.std.proofs.lemmas.Bool.Decides.{nat_tests}
 use Rattle.notation.specs.Numbers.{Short}
 use Rattle.notation.specs.Words.{spaced, Field, Splits}
@@ -25,7 +25,7 @@ splits_same bs (f ∷ k ∷ fs) (g ∷ h ∷ gs) p q e =
 digit_solid : (x : ℕ) → 48 ≤ x → eqb x 32 ≡ false
 digit_solid x h = grind (arith, nat_tests)
 
-digits_solid : (xs : List ℕ) → AllDigits 10 xs → All (λ b. eqb b 32 ≡ false) xs
+digits_solid : (xs : List ℕ) → AllDigits 10 xs → AllByRecursion (λ b. eqb b 32 ≡ false) xs
 digits_solid [] d = tt
 digits_solid (x ∷ xs) d = (digit_solid x (digit_at (x ∷ xs) 0 d (omega arith)).0, digits_solid xs d.1)
 
@@ -34,15 +34,15 @@ pub signed_field : (z : ℤ) → Short z → Field (signed_decimal z)
 signed_field (pos n) h = record { some = (natural_length n (decimal n) h refl).0; solid = digits_solid (decimal n) (natural_digits n (decimal n) h refl) }
 signed_field (negsuc n) h = record { some = omega arith; solid = (refl, digits_solid (decimal (suc n)) (natural_digits (suc n) (decimal (suc n)) h refl)) }
 
-signed_fields : (zs : List ℤ) → All Short zs → All Field (map signed_decimal zs)
+signed_fields : (zs : List ℤ) → AllByRecursion Short zs → AllByRecursion Field (map signed_decimal zs)
 signed_fields [] h = tt
 signed_fields (z ∷ zs) h = (signed_field z h.0, signed_fields zs h.1)
 
-pub numbers_split : (bs : List ℕ) (zs : List ℤ) → All Short zs → bs ≡ spaced (map signed_decimal zs) → Splits bs (map signed_decimal zs)
+pub numbers_split : (bs : List ℕ) (zs : List ℤ) → AllByRecursion Short zs → bs ≡ spaced (map signed_decimal zs) → Splits bs (map signed_decimal zs)
 numbers_split bs zs h e = record { text = e; fields = signed_fields zs h }
 
 -- with a field that is no number the fields are no numbers
-pub no_numbers : (fs : List (List ℕ)) (k : ℕ) → k < length fs → ((z : ℤ) → Short z → get_or fs k [] ≡ signed_decimal z → ⊥) → (zs : List ℤ) → All Short zs → fs ≡ map signed_decimal zs → ⊥
+pub no_numbers : (fs : List (List ℕ)) (k : ℕ) → k < length fs → ((z : ℤ) → Short z → get_or fs k [] ≡ signed_decimal z → ⊥) → (zs : List ℤ) → AllByRecursion Short zs → fs ≡ map signed_decimal zs → ⊥
 no_numbers [] k l none zs h e = let no : ⊥ = omega arith in absurd no
 no_numbers (f ∷ fs) k l none [] h e = let z : ◌≡◌ {A = ℕ} 0 1 = cc in omega arith
 no_numbers (f ∷ fs) zero l none (z ∷ zs) h e = let t : f ≡ signed_decimal z = cc in none z h.0 t

@@ -1,7 +1,7 @@
 -- Lines that a word opens: what is behind it decides what they are.
 use Rattle.std.proofs.Common.{◌≡◌, ℕ, suc, ◌<◌, true, false, ◌⊎◌, List, [], ◌∷◌, ◌++◌, map, length, get_or, drop, ℤ, codes, sym, refl, ap, ◌∙◌, inl, inr, ⊎_elim, arith}
 use Rattle.std.specs.Fmt.{signed_decimal}
-use Rattle.std.specs.List.{AllByRecursion as All}
+use Rattle.std.specs.List.{AllByRecursion}
 use Rattle.notation.specs.Commands.{command}
 use Rattle.notation.specs.Numbers.{Short}
 use Rattle.notation.specs.Words.{spaced, Field, Splits}
@@ -12,7 +12,7 @@ use Rattle.parsing.proofs.Numbering.{splits_same, numbers_split}
 -- the fields behind a word
 behind : (w line rest : List ℕ) (n : ℕ) → 0 < n → ((f r : List ℕ) → w ++ (32 ∷ f) ≡ w ++ (32 ∷ r) → f ≡ r) → line ≡ w ++ (32 ∷ rest) → Formed w n line → (fs : List (List ℕ)) × (length fs ≡ n) × Splits rest fs
 behind w line rest n p cut e f = go f.fields f.many f.each f.text where
-  go : (fs : List (List ℕ)) → length fs ≡ n → All Field fs → line ≡ spaced (w ∷ fs) → (gs : List (List ℕ)) × (length gs ≡ n) × Splits rest gs
+  go : (fs : List (List ℕ)) → length fs ≡ n → AllByRecursion Field fs → line ≡ spaced (w ∷ fs) → (gs : List (List ℕ)) × (length gs ≡ n) × Splits rest gs
   go [] m h t = let no : ⊥ = omega arith in absurd no
   go (g ∷ gs) m h t = (g ∷ gs, m, record { text = cut rest (spaced (g ∷ gs)) (sym e ∙ t); fields = h })
 
@@ -27,7 +27,7 @@ length_signed (z ∷ zs) = ap suc (length_signed zs)
 
 numbers_behind : (w line rest : List ℕ) (n : ℕ) → 0 < n → ((f r : List ℕ) → w ++ (32 ∷ f) ≡ w ++ (32 ∷ r) → f ≡ r) → line ≡ w ++ (32 ∷ rest) → (m : Numeric w n line) → Splits rest (map signed_decimal m.numbers)
 numbers_behind w line rest n p cut e m = go m.numbers m.many m.each m.text where
-  go : (zs : List ℤ) → length zs ≡ n → All Short zs → line ≡ command w zs → Splits rest (map signed_decimal zs)
+  go : (zs : List ℤ) → length zs ≡ n → AllByRecursion Short zs → line ≡ command w zs → Splits rest (map signed_decimal zs)
   go [] k h t = let no : ⊥ = omega arith in absurd no
   go (z ∷ zs) k h t = numbers_split rest (z ∷ zs) h (cut rest (spaced (map signed_decimal (z ∷ zs))) (sym e ∙ t))
 
@@ -39,7 +39,7 @@ numeric w line rest n (z ∷ zs) p k a e = (record { numbers = z ∷ zs; many = 
 pub no_form : (w line rest : List ℕ) (n : ℕ) → 0 < n → ((f r : List ℕ) → w ++ (32 ∷ f) ≡ w ++ (32 ∷ r) → f ≡ r) → line ≡ w ++ (32 ∷ rest) → ((fs : List (List ℕ)) → length fs ≡ n → Splits rest fs → ⊥) → Formed w n line → ⊥
 no_form w line rest n p cut e none f = let b = behind w line rest n p cut e f in none b.0 b.1 b.2
 
-pub no_numeric : (w line rest : List ℕ) (n : ℕ) (fs : List (List ℕ)) → 0 < n → ((f r : List ℕ) → w ++ (32 ∷ f) ≡ w ++ (32 ∷ r) → f ≡ r) → line ≡ w ++ (32 ∷ rest) → length fs ≡ n → Splits rest fs → ((zs : List ℤ) → All Short zs → fs ≡ map signed_decimal zs → ⊥) → Numeric w n line → ⊥
+pub no_numeric : (w line rest : List ℕ) (n : ℕ) (fs : List (List ℕ)) → 0 < n → ((f r : List ℕ) → w ++ (32 ∷ f) ≡ w ++ (32 ∷ r) → f ≡ r) → line ≡ w ++ (32 ∷ rest) → length fs ≡ n → Splits rest fs → ((zs : List ℤ) → AllByRecursion Short zs → fs ≡ map signed_decimal zs → ⊥) → Numeric w n line → ⊥
 no_numeric w line rest n fs p cut e k s none m =
     none m.numbers m.each (splits_same rest fs (map signed_decimal m.numbers) s (numbers_behind w line rest n p cut e m) (k ∙ sym m.many ∙ sym (length_signed m.numbers)))
 

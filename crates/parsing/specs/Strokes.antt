@@ -1,7 +1,7 @@
 -- What reading the numbers behind a word answers.
 use Rattle.std.specs.Prelude.{◌≡◌, ℕ, true, false, ◌⊎◌, List, [], ◌∷◌, map, length, ℤ, pos, Ok, Err, Result, ◌≢◌}
 use Rattle.std.specs.Fmt.{signed_decimal}
-use Rattle.std.specs.List.{AllByRecursion as All}
+use Rattle.std.specs.List.{AllByRecursion}
 use Rattle.lattice.specs.Refusals.{number}
 use Rattle.lattice.specs.declared.refusal.Refusal.{Refusal}
 use Rattle.elements.specs.declared.ink.Ink.{Ink}
@@ -39,11 +39,11 @@ CutMade i x y p q (Err e) =
 
 -- the bytes are so many fields, and not all of them numbers
 abbrev pub NotNumbers : List ℕ → ℕ → Type 0
-NotNumbers bs n = (fs : List (List ℕ)) × (length fs ≡ n) × Splits bs fs × ((zs : List ℤ) → All Short zs → fs ≢ map signed_decimal zs)
+NotNumbers bs n = (fs : List (List ℕ)) × (length fs ≡ n) × Splits bs fs × ((zs : List ℤ) → AllByRecursion Short zs → fs ≢ map signed_decimal zs)
 
 -- the bytes are these numbers, with one space between each two
 pub record NumbersAre (bs : List ℕ) (zs : List ℤ) : Type 0 where
-  pub short : All Short zs
+  pub short : AllByRecursion Short zs
   pub text : bs ≡ spaced (map signed_decimal zs)
 
 abbrev pub FieldFault : ℕ → List ℕ → ℕ → Type 0

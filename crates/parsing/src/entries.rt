@@ -4,7 +4,7 @@ ghost use Rattle.notation.specs.Contents.{EntryIs};
 ghost use Rattle.parsing.specs.Entries.{LengthAfter};
 
 use notation::contents::Entry;
-use reading::numbers::read_length;
+use reading::decimals::read_length;
 use reading::words::{after_rule, after_start, after_steps, is_body};
 
 // The length in the line `start N`.

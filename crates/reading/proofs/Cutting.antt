@@ -1,6 +1,6 @@
 -- Bytes up to the first one of a value, and the cut that it makes.
 use Rattle.std.proofs.Common.{◌≡◌, ℕ, suc, ◌+◌, ◌<◌, Bool, true, false, cond, eqb, List, [], ◌∷◌, ◌++◌, length, take, drop, refl, ap, ◌∙◌, one-add, arith}
-use Rattle.std.specs.List.{prefix_len, AllByRecursion as All}
+use Rattle.std.specs.List.{prefix_len, AllByRecursion}
 use Rattle.std.proofs.lemmas.Bool.Decides.{nat_tests}
 
 module _ (k : ℕ) where
@@ -9,7 +9,7 @@ module _ (k : ℕ) where
   free_length bs = prefix_len (λ b. cond (eqb b k) false true) bs
 
   abbrev pub Free : List ℕ → Type 0
-  Free bs = All (λ b. eqb b k ≡ false) bs
+  Free bs = AllByRecursion (λ b. eqb b k ≡ false) bs
 
   front_step : (x : ℕ) (xs : List ℕ) (b : Bool) → eqb x k ≡ b → Free (take (free_length xs) xs) → Free (take (cond (cond b false true) (1 + free_length xs) 0) (x ∷ xs))
   front_step x xs true e h = tt

@@ -1,6 +1,6 @@
 -- Stretches one behind the other in a table, when the latest is closed and when it grows.
 use Rattle.std.proofs.Common.{◌≡◌, ℕ, ◌+◌, ◌-◌, ◌≤◌, List, [], ◌∷◌, ◌++◌, length, take, drop, sum_by, sym, refl, ap, ◌∙◌, subst, arith, length-drop}
-use Rattle.std.specs.List.{AllByRecursion as All}
+use Rattle.std.specs.List.{AllByRecursion}
 use Rattle.std.proofs.lemmas.List.{take-take, length-take}
 use Rattle.std.proofs.lemmas.List.Sums.{sum_by-cons}
 use Rattle.std.proofs.lemmas.Slice.{between_is}
@@ -23,7 +23,7 @@ same_stretch {E} xs ys n s h e =
 
 module _ {E A C : Type 0} (m : KindModel E A C) where
   -- the stretches before the latest end where it begins
-  before : (at : ℕ) (ss : List Stretch) (s : Stretch) (t : Table E) → Chained m at (ss ++ (s ∷ [])) t → (at ≤ t.from) × All (λ r. r.to ≤ t.from) ss
+  before : (at : ℕ) (ss : List Stretch) (s : Stretch) (t : Table E) → Chained m at (ss ++ (s ∷ [])) t → (at ≤ t.from) × AllByRecursion (λ r. r.to ≤ t.from) ss
   before at [] s t h = (omega (arith, h.1), tt)
   before at (r ∷ []) s t h = let b = before r.to [] s t h.3 in (omega (arith, h.1, b.0), (b.0, tt))
   before at (r ∷ q ∷ ss) s t h = let b = before r.to (q ∷ ss) s t h.3 in (omega (arith, h.1, b.0), (b.0, b.1))
@@ -35,17 +35,17 @@ module _ {E A C : Type 0} (m : KindModel E A C) where
   is_last at (r ∷ q ∷ ss) s t h = is_last r.to (q ∷ ss) s t h.3
 
   -- the chain goes on with a table that has the same front, and another latest stretch
-  renewed : (at : ℕ) (ss : List Stretch) (s : Stretch) (t u : Table E) → u.from ≡ t.from → All (λ r. stretch_of u.slots.now r ≡ stretch_of t.slots.now r) ss → Chained m at (ss ++ (s ∷ [])) t → Chained m at (ss ++ (at_end u ∷ [])) u
+  renewed : (at : ℕ) (ss : List Stretch) (s : Stretch) (t u : Table E) → u.from ≡ t.from → AllByRecursion (λ r. stretch_of u.slots.now r ≡ stretch_of t.slots.now r) ss → Chained m at (ss ++ (s ∷ [])) t → Chained m at (ss ++ (at_end u ∷ [])) u
   renewed at [] s t u f e h = (f ∙ h.1, f ∙ h.1, refl)
   renewed at (r ∷ []) s t u f e h = (h.0, h.1, ap (canonical m) e.0 ∙ h.2, renewed r.to [] s t u f tt h.3)
   renewed at (r ∷ q ∷ ss) s t u f e h = (h.0, h.1, ap (canonical m) e.0 ∙ h.2, renewed r.to (q ∷ ss) s t u f e.1 h.3)
 
-  all_same : (xs ys : List E) (n : ℕ) (ss : List Stretch) → take n xs ≡ take n ys → All (λ r. r.to ≤ n) ss → All (λ r. stretch_of xs r ≡ stretch_of ys r) ss
+  all_same : (xs ys : List E) (n : ℕ) (ss : List Stretch) → take n xs ≡ take n ys → AllByRecursion (λ r. r.to ≤ n) ss → AllByRecursion (λ r. stretch_of xs r ≡ stretch_of ys r) ss
   all_same xs ys n [] e a = tt
   all_same xs ys n (s ∷ ss) e a = (same_stretch xs ys n s a.0 e, all_same xs ys n ss e a.1)
 
   -- growing leaves the stretches before the latest as they are
-  pub grown_before : (ss : List Stretch) (s : Stretch) (e : E) (t u : Table E) → KeptTable m (ss ++ (s ∷ [])) t → Grew m e t u → All (λ r. stretch_of u.slots.now r ≡ stretch_of t.slots.now r) ss
+  pub grown_before : (ss : List Stretch) (s : Stretch) (e : E) (t u : Table E) → KeptTable m (ss ++ (s ∷ [])) t → Grew m e t u → AllByRecursion (λ r. stretch_of u.slots.now r ≡ stretch_of t.slots.now r) ss
   grown_before ss s e t u k g = all_same _ _ t.from ss (g.front k.tidy) (before 0 ss s t k.chained).1
 
   pub grown_kept : (ss : List Stretch) (s : Stretch) (e : E) (t u : Table E) → KeptTable m (ss ++ (s ∷ [])) t → Grew m e t u → KeptTable m (ss ++ (at_end u ∷ [])) u
@@ -83,7 +83,7 @@ module _ {E A C : Type 0} (m : KindModel E A C) where
   stayed_kept ss s t u e k =
       subst (λ (v : Table E). KeptTable m (ss ++ (at_end v ∷ [])) v) (sym e)
       (record { tidy = k.tidy; chained = renewed 0 ss s t t refl (unchanged ss) k.chained }) where
-        unchanged : (rs : List Stretch) → All (λ r. stretch_of t.slots.now r ≡ stretch_of t.slots.now r) rs
+        unchanged : (rs : List Stretch) → AllByRecursion (λ r. stretch_of t.slots.now r ≡ stretch_of t.slots.now r) rs
         unchanged [] = tt
         unchanged (r ∷ rs) = (refl, unchanged rs)
 

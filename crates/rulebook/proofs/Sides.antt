@@ -1,7 +1,7 @@
 -- Sides of rules, when the latest is closed and when it grows.
 use Rattle.std.proofs.Common.{◌≡◌, ℕ, ◌-◌, List, [], ◌∷◌, ◌++◌, map, take, drop, sym, refl, ap, ◌∙◌, subst, arith, MutBor}
 use mathlib.Core.List.{map-append}
-use Rattle.std.specs.List.{AllByRecursion as All}
+use Rattle.std.specs.List.{AllByRecursion}
 use Rattle.kinds.specs.Model.{KindModel, covers}
 use Rattle.sheets.specs.Cover.{union, cover}
 use Rattle.sheets.specs.Maximal.{Lists}
@@ -24,8 +24,8 @@ cut_stretch s = s.cuts
 
 -- sides of which the stretches are the same are the same
 same_sides : {EM EC : Type 0} (t u : SideTables EM EC) (ss : List SideRecord)
-    → All (λ r. stretch_of u.marks.slots.now r ≡ stretch_of t.marks.slots.now r) (map mark_stretch ss)
-    → All (λ r. stretch_of u.cuts.slots.now r ≡ stretch_of t.cuts.slots.now r) (map cut_stretch ss)
+    → AllByRecursion (λ r. stretch_of u.marks.slots.now r ≡ stretch_of t.marks.slots.now r) (map mark_stretch ss)
+    → AllByRecursion (λ r. stretch_of u.cuts.slots.now r ≡ stretch_of t.cuts.slots.now r) (map cut_stretch ss)
     → map (side_of u) ss ≡ map (side_of t) ss
 same_sides t u [] p q = refl
 same_sides t u (s ∷ ss) p q =
@@ -34,12 +34,12 @@ same_sides t u (s ∷ ss) p q =
     let r = same_sides t u ss p.1 q.1 in
     λ i. record { marks = h i; cuts = k i } ∷ r i
 
-all_refl : {E : Type 0} (xs : List E) (ss : List Stretch) → All (λ r. stretch_of xs r ≡ stretch_of xs r) ss
+all_refl : {E : Type 0} (xs : List E) (ss : List Stretch) → AllByRecursion (λ r. stretch_of xs r ≡ stretch_of xs r) ss
 all_refl xs [] = tt
 all_refl xs (s ∷ ss) = (refl, all_refl xs ss)
 
-all_is : {E : Type 0} (xs ys : List E) (ss : List Stretch) → xs ≡ ys → All (λ r. stretch_of xs r ≡ stretch_of ys r) ss
-all_is xs ys ss e = subst (λ zs. All (λ r. stretch_of xs r ≡ stretch_of zs r) ss) e (all_refl xs ss)
+all_is : {E : Type 0} (xs ys : List E) (ss : List Stretch) → xs ≡ ys → AllByRecursion (λ r. stretch_of xs r ≡ stretch_of ys r) ss
+all_is xs ys ss e = subst (λ zs. AllByRecursion (λ r. stretch_of xs r ≡ stretch_of zs r) ss) e (all_refl xs ss)
 
 module _ {EM AM CM EC Ac CC : Type 0} (M : KindModel EM AM CM) (C : KindModel EC Ac CC) where
   -- the two chains of the sides before the latest, and of the latest

@@ -1,6 +1,6 @@
 -- A whole sheet's elements, counted first and then carried out one after the other.
 use Rattle.std.proofs.Common.{◌≡◌, ℕ, zero, suc, ◌+◌, ◌-◌, ◌<◌, ◌≤◌, Bool, true, false, ◌||◌, ◌⊎◌, List, [], ◌∷◌, ◌++◌, length, get_or, take, drop, Ok, Err, Result, sym, refl, ap, ◌∙◌, subst, inl, inr, ⊎_elim, arith, MatchResult}
-use Rattle.std.specs.List.{AllByRecursion as All}
+use Rattle.std.specs.List.{AllByRecursion}
 use Rattle.std.proofs.ByRecursion.{All-weaker, All-get_or}
 use Rattle.std.proofs.lemmas.List.{take_more, take_all, append-nil, append_assoc, length-take, take-append-drop}
 use Rattle.lattice.specs.declared.refusal.Refusal.{Refusal}
@@ -22,7 +22,7 @@ absorbed : (b c : Bool) → (b ≡ true → c ≡ true) → (b || c) ≡ c
 absorbed true c h = sym (h refl)
 absorbed false c h = refl
 
-all_from_belongs : {X : Type 0} (P : X → Type 0) (xs : List X) → ((x : X) → Belongs x xs → P x) → All P xs
+all_from_belongs : {X : Type 0} (P : X → Type 0) (xs : List X) → ((x : X) → Belongs x xs → P x) → AllByRecursion P xs
 all_from_belongs P [] h = tt
 all_from_belongs P (x ∷ xs) h = (h x (inl refl), all_from_belongs P xs (λ y b. h y (inr b)))
 
@@ -42,7 +42,7 @@ module _ {E A C : Type 0} (m : KindModel E A C) (r : Rules m) where
       ap (λ zs. cover m zs a) (take_more es i x l ∙ ap (λ y. take i es ++ y ∷ []) (sym is))
       ∙ cover_append m (take i es) (x ∷ []) a ∙ ap (λ b. cover m (take i es) a || b) (or_none (covers m x a))
 
-  front_ahead : (es : List E) (i : ℕ) (d : E) → Pairs m es → i < length es → All (λ b. ahead m b (get_or es i d) ≡ true) (take i es)
+  front_ahead : (es : List E) (i : ℕ) (d : E) → Pairs m es → i < length es → AllByRecursion (λ b. ahead m b (get_or es i d) ≡ true) (take i es)
   front_ahead [] i d p l = absurd (omega arith)
   front_ahead (y ∷ ys) zero d p l = tt
   front_ahead (y ∷ ys) (suc i) d p l = (All-get_or _ ys i d (omega arith) p.0, front_ahead ys i d p.1 (omega arith))
@@ -62,7 +62,7 @@ module _ {E A C : Type 0} (m : KindModel E A C) (r : Rules m) where
       by_more : (s : A → Bool) (a : A) → op (s a) (cover m (take (i + 1) es) a) ≡ op (op (s a) (cover m (take i es) a)) (covers m x a)
       by_more s a = ap (op (s a)) (cover_more es i x a l is) ∙ o.both (s a) (cover m (take i es) a) (covers m x a)
 
-      aheads : Pairs m es → All (λ b. (ahead m b x ≡ true) ⊎ (ahead m x b ≡ true)) (take i es)
+      aheads : Pairs m es → AllByRecursion (λ b. (ahead m b x ≡ true) ⊎ (ahead m x b ≡ true)) (take i es)
       aheads p = All-weaker _ _ (λ b h. inl (ap (ahead m b) is ∙ h)) (take i es) (front_ahead es i x p l)
 
       -- one more element counted
@@ -146,7 +146,7 @@ module _ {E A C : Type 0} (m : KindModel E A C) (r : Rules m) where
     }
 
     -- elements none of which shortens the list make it no shorter together
-    grows : (cs bs xs : List E) (n k : ℕ) → canonical m xs ≡ true → Pairs m (bs ++ cs) → All (λ c. (j : ℕ) → Counts m (by m op (cover m xs) (covers m c)) j → length xs ≤ j) cs
+    grows : (cs bs xs : List E) (n k : ℕ) → canonical m xs ≡ true → Pairs m (bs ++ cs) → AllByRecursion (λ c. (j : ℕ) → Counts m (by m op (cover m xs) (covers m c)) j → length xs ≤ j) cs
         → Counts m (by m op (cover m xs) (cover m bs)) n → Counts m (by m op (cover m xs) (cover m (bs ++ cs))) k → n ≤ k
     grows [] bs xs n k h p g c d =
         let e = counts_one _ n k c (counts_at (λ a. ap (λ zs. op (cover m xs a) (cover m zs a)) (append-nil bs)) d) in

@@ -2,7 +2,7 @@
 use Rattle.std.proofs.Common.{◌≡◌, ℕ, ◌+◌, Bool, true, false, cond, not, ◌&&◌, ◌||◌, List, [], ◌∷◌, ◌++◌, length, ℤ, ◌≤ℤ◌, ◌<ℤ◌, Some, None, Option, sym, refl, ap, ◌∙◌, subst, inl, ⊎_elim, arith}
 use lib.Signed.{lt_z}
 use Rattle.std.specs.Int.{int_max, int_min}
-use Rattle.std.specs.List.{AllByRecursion as All}
+use Rattle.std.specs.List.{AllByRecursion}
 use Rattle.std.proofs.lemmas.List.{length-append}
 use Rattle.std.proofs.ByRecursion.{All-weaker, All-append}
 use Rattle.std.proofs.lemmas.Bool.{cases_Bool, both_ways}
@@ -213,7 +213,7 @@ module _ {E A C : Type 0} (m : KindModel E A C) where
     less (x ∷ xs) e p =
         let c = cut e x in
         let s = less xs e p.1 in
-        let across : All (λ q. Before m q xs) c.list = swap (λ t q. ahead m q t ≡ true) xs c.list (All-weaker _ _ (λ t k. c.rest.before t (k, tt)) xs p.0) in
+        let across : AllByRecursion (λ q. Before m q xs) c.list = swap (λ t q. ahead m q t ≡ true) xs c.list (All-weaker _ _ (λ t k. c.rest.before t (k, tt)) xs p.0) in
         record {
           list = c.list ++ s.list;
           pairs = pairs_append m c.list s.list c.rest.pairs s.pairs (All-weaker _ _ (λ q k. s.after q k) c.list across);

@@ -1,6 +1,6 @@
 -- An operation on sets, sum or difference, carried out element by element: how long the lists are on the way.
 use Rattle.std.proofs.Common.{◌≡◌, ◌+◌, Bool, true, false, ◌||◌, ◌⊎◌, List, [], ◌∷◌, length, sym, refl, ap, ◌∙◌, inl, inr, arith}
-use Rattle.std.specs.List.{AllByRecursion as All}
+use Rattle.std.specs.List.{AllByRecursion}
 use Rattle.kinds.specs.Model.{KindModel, covers}
 use Rattle.kinds.specs.Rules.{Rules}
 use Rattle.sheets.specs.Cover.{cover, ahead, canonical}
@@ -52,7 +52,7 @@ module _ {E A C : Type 0} (m : KindModel E A C) (r : Rules m) (op : Bool → Boo
         (y.0, lists_at y.0 y.1 (λ a. ap (λ s. op s (cover m bs a)) (x.1.covering a) ∙ sym (o.both (cover m xs a) (covers m b a) (cover m bs a))))
 
     -- an element that touches none of bs changes the length as much after them as before them
-    pub apart_all : (bs xs us vs ws : List E) (e : E) → canonical m xs ≡ true → All (λ b. (ahead m b e ≡ true) ⊎ (ahead m e b ≡ true)) bs
+    pub apart_all : (bs xs us vs ws : List E) (e : E) → canonical m xs ≡ true → AllByRecursion (λ b. (ahead m b e ≡ true) ⊎ (ahead m e b ≡ true)) bs
         → Lists m (by m op (cover m xs) (cover m bs)) us → Lists m (by m op (cover m xs) (covers m e)) vs → Lists m (by m op (by m op (cover m xs) (cover m bs)) (covers m e)) ws
         → length ws + length xs ≡ length us + length vs
     apart_all [] xs us vs ws e h k p q s =

@@ -1,6 +1,6 @@
 -- A canonical list with the atoms of one element more.
 use Rattle.std.proofs.Common.{◌≡◌, ℕ, ◌+◌, ◌-◌, ◌<◌, ◌≤◌, Bool, true, false, ◌||◌, List, [], ◌∷◌, ◌++◌, length, get_or, take, drop, IfErr, Ok, Err, Result, sym, refl, ap, ◌∙◌, subst, ⊎_elim, arith, MatchResult}
-use Rattle.std.specs.List.{between, AllByRecursion as All}
+use Rattle.std.specs.List.{between, AllByRecursion}
 use Rattle.std.proofs.lemmas.Bool.{cases_lt}
 use Rattle.std.proofs.lemmas.List.{take-append-drop, drop-drop, drop_more, drop_all, length-take}
 use Rattle.std.proofs.lemmas.List.Edits.{split_between}
@@ -74,7 +74,7 @@ module _ {E A C : Type 0} (m : KindModel E A C) (r : Rules m) where
     pub added_canonical : canonical m xs ≡ true → canonical m (take from xs ++ (w ∷ drop to xs)) ≡ true
     added_canonical h =
         let p = f.parted h in
-        let back = subst (All (λ x. ahead m x e ≡ false)) (split_rest xs from to f.low) p.back in
+        let back = subst (AllByRecursion (λ x. ahead m x e ≡ false)) (split_rest xs from to f.low) p.back in
         let three = subst (Pairs m) (split_between xs from to f.low) (pairs_from m r xs h) in
         pairs_to m _ (joined_pairs m r e w (take from xs) (between from to xs) (drop to xs) three p.front back f.whole clear)
 

@@ -1,6 +1,6 @@
 -- Whether a canonical list covers all of an element: the one place to look.
 use Rattle.std.proofs.Common.{◌≡◌, ℕ, zero, suc, ◌+◌, ◌<◌, ◌≤◌, Bool, true, false, List, [], ◌∷◌, length, get_or, take, drop, Decides, sym, ap, ◌∙◌, subst, inl, inr, ⊎_elim, arith}
-use Rattle.std.specs.List.{AllByRecursion as All}
+use Rattle.std.specs.List.{AllByRecursion}
 use Rattle.std.proofs.lemmas.List.{drop_more, drop_all, take-append-drop}
 use Rattle.std.proofs.lemmas.Bool.{false≢true, both_ways}
 use Rattle.std.proofs.lemmas.Int.{ints}
@@ -35,7 +35,7 @@ module _ {E A C : Type 0} (m : KindModel E A C) (r : Rules m) where
     first_one x y rest s o (inr b) =
         let q = subst (Pairs m) s (pairs_right m (take at xs) (drop at xs) (subst (Pairs m) (sym (take-append-drop at xs)) (pairs_from m r xs h))) in
         let a = ahead_later m r x y e (all_belongs _ rest y q.0 b) (sym o.on) o.from in
-        absurd (both_ways _ (subst (All (λ z. ahead m z e ≡ false)) s p.back).0 a)
+        absurd (both_ways _ (subst (AllByRecursion (λ z. ahead m z e ≡ false)) s p.back).0 a)
 
     pub at_one : (x : E) (t : Bool) → at < length xs → x ≡ get_or xs at x → Decides t (Part (covers m e) (covers m x)) → Decides t (Part (covers m e) (cover m xs))
     at_one x t l is d = (

@@ -3,7 +3,7 @@ use Rattle.std.proofs.Common.{◌≡◌, ℕ, zero, suc, ◌+◌, ◌≤◌, tru
 use Rattle.std.proofs.lemmas.List.{length-append, length-take}
 use Rattle.std.proofs.lemmas.List.Sums.{sum_by-cons}
 use Rattle.std.proofs.ByRecursion.{sum_by_le}
-use Rattle.std.specs.List.{AllByRecursion as All}
+use Rattle.std.specs.List.{AllByRecursion}
 use Rattle.std.proofs.lemmas.Bool.{false≢true, or_cases, or_left, or_right}
 use Rattle.std.proofs.lemmas.Int.{ints}
 use Rattle.kinds.specs.Model.{KindModel, covers}
@@ -133,6 +133,6 @@ module _ {E A C : Type 0} (m : KindModel E A C) (r : Rules m) where
       let b = sum_by_le (size m) 4001 (items s) (every_few (items s)) in
       omega (arith, b, mul-le-mul_right 4001 n)
     where
-      every_few : (xs : List E) → All (λ e. size m e ≤ 4001) xs
+      every_few : (xs : List E) → AllByRecursion (λ e. size m e ≤ 4001) xs
       every_few [] = tt
       every_few (x ∷ xs) = (few_each x, every_few xs)

@@ -1,7 +1,7 @@
 -- Elements that touch made one, and a canonical list with one element more.
 use Rattle.std.proofs.Common.{◌≡◌, ℕ, zero, suc, ◌<◌, Bool, true, false, ◌||◌, List, [], ◌∷◌, ◌++◌, length, get_or, take, drop, ◌<ℤ◌, sym, refl, ap, ◌∙◌, subst, inl, inr, ⊎_elim, arith}
 use Rattle.std.specs.Int.{int_min}
-use Rattle.std.specs.List.{AllByRecursion as All}
+use Rattle.std.specs.List.{AllByRecursion}
 use Rattle.std.proofs.ByRecursion.{All-weaker, All-get_or}
 use Rattle.std.proofs.lemmas.Bool.{both_ways, cases_Bool}
 use Rattle.std.proofs.lemmas.Int.{ints}
@@ -75,20 +75,20 @@ module _ {E A C : Type 0} (m : KindModel E A C) where
     Clear w [] = Unit {0}
     Clear w (t ∷ ts) = Touch m w t → ⊥
 
-    pub before_rest : (e w : E) (xs ts : List E) → Whole m e xs w → Pairs m ts → All (λ x. ahead m x e ≡ false) ts → Clear w ts → Before m w ts
+    pub before_rest : (e w : E) (xs ts : List E) → Whole m e xs w → Pairs m ts → AllByRecursion (λ x. ahead m x e ≡ false) ts → Clear w ts → Before m w ts
     before_rest e w xs [] h p n k = tt
     before_rest e w xs (t ∷ ts) h p n k =
         let here : ahead m w t ≡ true = ⊎_elim (λ l. l) (λ l. absurd (both_ways _ n.0 (h.less t l))) (apart m r w t k) in
         (here, All-weaker _ _ (λ z l. ahead_trans m r w t z here l) ts p.0)
 
     -- a canonical list in three parts, the middle one made one with e
-    pub joined_pairs : (e w : E) (fs ms ts : List E) → Pairs m (fs ++ (ms ++ ts)) → All (λ x. ahead m x e ≡ true) fs → All (λ x. ahead m x e ≡ false) (ms ++ ts) → Whole m e ms w → Clear w ts → Pairs m (fs ++ (w ∷ ts))
+    pub joined_pairs : (e w : E) (fs ms ts : List E) → Pairs m (fs ++ (ms ++ ts)) → AllByRecursion (λ x. ahead m x e ≡ true) fs → AllByRecursion (λ x. ahead m x e ≡ false) (ms ++ ts) → Whole m e ms w → Clear w ts → Pairs m (fs ++ (w ∷ ts))
     joined_pairs e w fs ms ts p f n h k =
         let q = pairs_right m fs (ms ++ ts) p in
         let rest = pairs_right m ms ts q in
         let before = before_rest e w ms ts h rest (all_right _ ms ts n) k in
         pairs_append m fs (w ∷ ts) (pairs_left m fs (ms ++ ts) p) (before, rest) (fronts fs f (pairs_across m fs (ms ++ ts) p)) where
-          fronts : (gs : List E) → All (λ x. ahead m x e ≡ true) gs → All (λ x. Before m x (ms ++ ts)) gs → All (λ x. Before m x (w ∷ ts)) gs
+          fronts : (gs : List E) → AllByRecursion (λ x. ahead m x e ≡ true) gs → AllByRecursion (λ x. Before m x (ms ++ ts)) gs → AllByRecursion (λ x. Before m x (w ∷ ts)) gs
           fronts [] f b = tt
           fronts (g ∷ gs) f b = ((h.after g f.0 (all_left _ ms ts b.0), all_right _ ms ts b.0), fronts gs f.1 b.1)
 
@@ -100,12 +100,12 @@ module _ {E A C : Type 0} (m : KindModel E A C) where
         ∙ ap (λ b. b || covers m e a) (sym (cover_append fs (ms ++ ts) a))
 
     -- where the search stands: what is before an element that is ahead of e is ahead of e too, and what is after one that is not, is not
-    pub front_all : (xs : List E) (i : ℕ) (e d : E) → Pairs m xs → i < length xs → ahead m (get_or xs i d) e ≡ true → All (λ x. ahead m x e ≡ true) (take (suc i) xs)
+    pub front_all : (xs : List E) (i : ℕ) (e d : E) → Pairs m xs → i < length xs → ahead m (get_or xs i d) e ≡ true → AllByRecursion (λ x. ahead m x e ≡ true) (take (suc i) xs)
     front_all [] i e d p l h = absurd (omega arith)
     front_all (x ∷ xs) zero e d p l h = (h, tt)
     front_all (x ∷ xs) (suc i) e d p l h = (ahead_trans m r x _ e (All-get_or _ xs i d (omega arith) p.0) h, front_all xs i e d p.1 (omega arith) h)
 
-    pub back_none : (xs : List E) (i : ℕ) (e d : E) → Pairs m xs → i < length xs → ahead m (get_or xs i d) e ≡ false → All (λ x. ahead m x e ≡ false) (drop i xs)
+    pub back_none : (xs : List E) (i : ℕ) (e d : E) → Pairs m xs → i < length xs → ahead m (get_or xs i d) e ≡ false → AllByRecursion (λ x. ahead m x e ≡ false) (drop i xs)
     back_none [] i e d p l h = absurd (omega arith)
     back_none (x ∷ xs) zero e d p l h = (h, All-weaker _ _ (λ y k. ⊎_elim (λ q. absurd (both_ways _ h (ahead_trans m r x y e k q))) (λ q. q) (cases_Bool (ahead m y e))) xs p.0)
     back_none (x ∷ xs) (suc i) e d p l h = back_none xs i e d p.1 (omega arith) h

@@ -1,6 +1,6 @@
 -- Lists in canonical form, all pairs at once.
 use Rattle.std.proofs.Common.{◌≡◌, true, ◌⊎◌, List, [], ◌∷◌, ◌++◌, ◌<ℤ◌, refl, subst, inl, inr, ⊎_elim}
-use Rattle.std.specs.List.{AllByRecursion as All}
+use Rattle.std.specs.List.{AllByRecursion}
 use Rattle.std.proofs.lemmas.Bool.{false≢true, and_parts, and_from, or_cases}
 use Rattle.std.proofs.ByRecursion.{All-weaker, All-append}
 use Rattle.kinds.specs.Model.{KindModel, covers}
@@ -11,16 +11,16 @@ use Rattle.sheets.specs.Census.{Belongs}
 use Rattle.sheets.proofs.Ahead.{ahead_trans, past}
 
 module _ {X : Type 0} where
-  pub all_belongs : (P : X → Type 0) (xs : List X) (x : X) → All P xs → Belongs x xs → P x
+  pub all_belongs : (P : X → Type 0) (xs : List X) (x : X) → AllByRecursion P xs → Belongs x xs → P x
   all_belongs P [] x h b = absurd b
   all_belongs P (y ∷ ys) x h (inl e) = subst P e h.0
   all_belongs P (y ∷ ys) x h (inr b) = all_belongs P ys x h.1 b
 
-  pub all_left : (P : X → Type 0) (xs ys : List X) → All P (xs ++ ys) → All P xs
+  pub all_left : (P : X → Type 0) (xs ys : List X) → AllByRecursion P (xs ++ ys) → AllByRecursion P xs
   all_left P [] ys h = tt
   all_left P (x ∷ xs) ys h = (h.0, all_left P xs ys h.1)
 
-  pub all_right : (P : X → Type 0) (xs ys : List X) → All P (xs ++ ys) → All P ys
+  pub all_right : (P : X → Type 0) (xs ys : List X) → AllByRecursion P (xs ++ ys) → AllByRecursion P ys
   all_right P [] ys h = h
   all_right P (x ∷ xs) ys h = all_right P xs ys h.1
 
@@ -40,7 +40,7 @@ module _ {X : Type 0} where
 
 module _ {E A C : Type 0} (m : KindModel E A C) where
   abbrev pub Before : E → List E → Type 0
-  Before x xs = All (λ y. ahead m x y ≡ true) xs
+  Before x xs = AllByRecursion (λ y. ahead m x y ≡ true) xs
 
   abbrev pub Pairs : List E → Type 0
   Pairs [] = Unit {0}
@@ -51,7 +51,7 @@ module _ {E A C : Type 0} (m : KindModel E A C) where
   pairs_to (x ∷ []) h = refl
   pairs_to (x ∷ y ∷ ys) h = and_from _ _ h.0.0 (pairs_to (y ∷ ys) h.1)
 
-  pub pairs_append : (xs ys : List E) → Pairs xs → Pairs ys → All (λ x. Before x ys) xs → Pairs (xs ++ ys)
+  pub pairs_append : (xs ys : List E) → Pairs xs → Pairs ys → AllByRecursion (λ x. Before x ys) xs → Pairs (xs ++ ys)
   pairs_append [] ys p q h = q
   pairs_append (x ∷ xs) ys p q h = (All-append _ xs ys p.0 h.0, pairs_append xs ys p.1 q h.1)
 
@@ -63,7 +63,7 @@ module _ {E A C : Type 0} (m : KindModel E A C) where
   pairs_right [] ys h = h
   pairs_right (x ∷ xs) ys h = pairs_right xs ys h.1
 
-  pub pairs_across : (xs ys : List E) → Pairs (xs ++ ys) → All (λ x. Before x ys) xs
+  pub pairs_across : (xs ys : List E) → Pairs (xs ++ ys) → AllByRecursion (λ x. Before x ys) xs
   pairs_across [] ys h = tt
   pairs_across (x ∷ xs) ys h = (all_right _ xs ys h.0, pairs_across xs ys h.1)
 

@@ -1,6 +1,6 @@
 -- A canonical list without the atoms of one element.
 use Rattle.std.proofs.Common.{◌≡◌, ℕ, suc, ◌+◌, ◌-◌, ◌<◌, ◌≤◌, Bool, true, false, not, ◌&&◌, ◌||◌, ◌⊎◌, List, [], ◌∷◌, ◌++◌, length, get_or, take, drop, ◌≤ℤ◌, ◌<ℤ◌, Some, None, Option, sym, refl, ap, ◌∙◌, subst, inl, inr, ⊎_elim, arith}
-use Rattle.std.specs.List.{between, AllByRecursion as All}
+use Rattle.std.specs.List.{between, AllByRecursion}
 use Rattle.std.specs.Int.{int_max, int_min}
 use Rattle.std.proofs.ByRecursion.{All-weaker, All-append}
 use Rattle.std.proofs.lemmas.List.{drop_more, drop_all}
@@ -38,7 +38,7 @@ without : (f b t e : Bool) → (e ≡ true → f ≡ false) → (e ≡ true → 
 without f b t true p q = (λ i. p refl i || (and_false b i || q refl i)) ∙ sym (and_false (f || (b || t)))
 without f b t false p q = ap (λ c. f || (c || t)) (and_true b) ∙ sym (and_true (f || (b || t)))
 
-pub swap : {X Y : Type 0} (R : X → Y → Type 0) (xs : List X) (ys : List Y) → All (λ x. All (R x) ys) xs → All (λ y. All (λ x. R x y) xs) ys
+pub swap : {X Y : Type 0} (R : X → Y → Type 0) (xs : List X) (ys : List Y) → AllByRecursion (λ x. AllByRecursion (R x) ys) xs → AllByRecursion (λ y. AllByRecursion (λ x. R x y) xs) ys
 swap R xs [] h = tt
 swap R xs (y ∷ ys) h = (All-weaker _ _ (λ x k. k.0) xs h, swap R xs ys (All-weaker _ _ (λ x k. k.1) xs h))
 
@@ -48,7 +48,7 @@ module _ {E A C : Type 0} (m : KindModel E A C) where
     pub all : (a : A) → cover m ps a ≡ (cover m ms a && not (covers m e a))
     pub pairs : Pairs m ps
     pub after : (x : E) → Before m x ms → Before m x ps
-    pub before : (t : E) → All (λ y. ahead m y t ≡ true) ms → All (λ p. ahead m p t ≡ true) ps
+    pub before : (t : E) → AllByRecursion (λ y. ahead m y t ≡ true) ms → AllByRecursion (λ p. ahead m p t ≡ true) ps
 
   pub rest_none : (e : E) → Rest e [] []
   rest_none e = record { all = λ a. refl; pairs = tt; after = λ x h. tt; before = λ t h. tt }
@@ -57,8 +57,8 @@ module _ {E A C : Type 0} (m : KindModel E A C) where
   pub record Ends (ms : List E) (f l : E) : Type 0 where
     pub first_in : Belongs f ms
     pub last_in : Belongs l ms
-    pub low : All (λ x. (f ≡ x) ⊎ (ahead m f x ≡ true)) ms
-    pub high : All (λ x. (x ≡ l) ⊎ (ahead m x l ≡ true)) ms
+    pub low : AllByRecursion (λ x. (f ≡ x) ⊎ (ahead m f x ≡ true)) ms
+    pub high : AllByRecursion (λ x. (x ≡ l) ⊎ (ahead m x l ≡ true)) ms
 
   belongs_last : (xs : List E) (x : E) → Belongs x (xs ++ x ∷ [])
   belongs_last [] x = inl refl
@@ -71,8 +71,8 @@ module _ {E A C : Type 0} (m : KindModel E A C) where
       record {
         first_in = subst (Belongs f) (sym a) (inl refl);
         last_in = subst (Belongs l) (sym b) (belongs_last init l);
-        low = subst (All (λ x. (f ≡ x) ⊎ (ahead m f x ≡ true))) (sym a) (inl refl, All-weaker _ _ (λ x h. inr h) rest pa.0);
-        high = subst (All (λ x. (x ≡ l) ⊎ (ahead m x l ≡ true))) (sym b) (All-append _ init (l ∷ []) (All-weaker _ _ (λ x h. inr h.0) init (pairs_across m init (l ∷ []) pb)) (inl refl, tt));
+        low = subst (AllByRecursion (λ x. (f ≡ x) ⊎ (ahead m f x ≡ true))) (sym a) (inl refl, All-weaker _ _ (λ x h. inr h) rest pa.0);
+        high = subst (AllByRecursion (λ x. (x ≡ l) ⊎ (ahead m x l ≡ true))) (sym b) (All-append _ init (l ∷ []) (All-weaker _ _ (λ x h. inr h.0) init (pairs_across m init (l ∷ []) pb)) (inl refl, tt));
       }
 
   pub ends_between : (xs : List E) (from to : ℕ) (f l : E) → from < to → to ≤ length xs → f ≡ get_or xs from f → l ≡ get_or xs (to - 1) l → Pairs m (between from to xs) → Ends (between from to xs) f l
@@ -131,7 +131,7 @@ module _ {E A C : Type 0} (m : KindModel E A C) where
     outside e a o c h = ⊎_elim inl (λ l. ⊎_elim (λ k. absurd (both_ways _ h (has_to m r.ordered e a (record { proper = o; on = c; from = l; to = k })))) inr (cases_lt_z (m.at a) (m.end e))) (cases_lt_z (m.at a) (m.start e))
 
     -- the first and the last, cut, are what e leaves of a part whose elements it touches
-    module _ (e f l : E) (lo ro : Option E) (ms : List E) (ends : Ends ms f l) (touch : All (Touch m e) ms) (lp : LeftPart m e f lo) (rp : RightPart m e l ro) where
+    module _ (e f l : E) (lo ro : Option E) (ms : List E) (ends : Ends ms f l) (touch : AllByRecursion (Touch m e) ms) (lp : LeftPart m e f lo) (rp : RightPart m e l ro) where
       tf : Touch m e f
       tf = all_belongs (Touch m e) ms f touch ends.first_in
 
@@ -189,11 +189,11 @@ module _ {E A C : Type 0} (m : KindModel E A C) where
       after_right None rp x h = tt
       after_right (Some p) rp x h = (ahead_later m r x l p h rp.on (subst (λ z. m.start l ≤ℤ z) (sym rp.from) (grind (arith, ints))), tt)
 
-      before_left : (lo : Option E) → LeftPart m e f lo → (t : E) → ahead m f t ≡ true → All (λ p. ahead m p t ≡ true) (one_listed lo)
+      before_left : (lo : Option E) → LeftPart m e f lo → (t : E) → ahead m f t ≡ true → AllByRecursion (λ p. ahead m p t ≡ true) (one_listed lo)
       before_left None lp t h = tt
       before_left (Some p) lp t h = (ahead_sooner m r f t p h lp.on (subst (λ z. z ≤ℤ m.end f) (sym lp.to) (grind (arith, ints))), tt)
 
-      before_right : (ro : Option E) → RightPart m e l ro → (t : E) → ahead m l t ≡ true → All (λ p. ahead m p t ≡ true) (one_listed ro)
+      before_right : (ro : Option E) → RightPart m e l ro → (t : E) → ahead m l t ≡ true → AllByRecursion (λ p. ahead m p t ≡ true) (one_listed ro)
       before_right None rp t h = tt
       before_right (Some p) rp t h = (ahead_sooner m r l t p h rp.on (subst (λ z. z ≤ℤ m.end l) (sym rp.to) (omega (arith, ints))), tt)
 
@@ -213,14 +213,14 @@ module _ {E A C : Type 0} (m : KindModel E A C) where
         let tail = pairs_append m ps ts h.pairs (pairs_right m ms ts q) (swap (λ t y. ahead m y t ≡ true) ts ps each) in
         pairs_append m fs (ps ++ ts) (pairs_left m fs (ms ++ ts) p) tail (All-weaker _ _ (λ x k. All-append _ ps ts (h.after x (all_left _ ms ts k)) (all_right _ ms ts k)) fs (pairs_across m fs (ms ++ ts) p))
 
-    front_clear : (e : E) (fs : List E) (a : A) → All (λ x. ahead m x e ≡ true) fs → Has m e a → cover m fs a ≡ false
+    front_clear : (e : E) (fs : List E) (a : A) → AllByRecursion (λ x. ahead m x e ≡ true) fs → Has m e a → cover m fs a ≡ false
     front_clear e [] a h w = refl
     front_clear e (x ∷ xs) a h w = or_from _ _ (not_covers x a (λ k. let l = past m r x e a h.0 k.on w in let n = k.to in omega (arith, ints))) (front_clear e xs a h.1 w)
 
     back_clear : (e : E) (ts : List E) (a : A) → Before m e ts → Has m e a → cover m ts a ≡ false
     back_clear e ts a h w = ⊎_elim (λ t. let l = cover_past m r e ts a h w.on t in let n = w.to in absurd (omega (arith, ints))) (λ f. f) (cases_Bool (cover m ts a))
 
-    pub rest_cover : (e : E) (fs ms ps ts : List E) (a : A) → All (λ x. ahead m x e ≡ true) fs → Before m e ts → Rest e ms ps → cover m (fs ++ (ps ++ ts)) a ≡ (cover m (fs ++ (ms ++ ts)) a && not (covers m e a))
+    pub rest_cover : (e : E) (fs ms ps ts : List E) (a : A) → AllByRecursion (λ x. ahead m x e ≡ true) fs → Before m e ts → Rest e ms ps → cover m (fs ++ (ps ++ ts)) a ≡ (cover m (fs ++ (ms ++ ts)) a && not (covers m e a))
     rest_cover e fs ms ps ts a f b h =
         cover_append m fs (ps ++ ts) a ∙ ap (λ z. cover m fs a || z) (cover_append m ps ts a ∙ ap (λ z. z || cover m ts a) (h.all a))
         ∙ without (cover m fs a) (cover m ms a) (cover m ts a) (covers m e a) (λ t. front_clear e fs a f (has_from m r.ordered e a t)) (λ t. back_clear e ts a b (has_from m r.ordered e a t))
@@ -231,7 +231,7 @@ module _ {E A C : Type 0} (m : KindModel E A C) where
       pub low : from ≤ to
       pub high : to ≤ length xs
       pub parted : canonical m xs ≡ true → Parted (λ x. ahead m x e) xs from
-      pub touch : All (Touch m e) (between from to xs)
+      pub touch : AllByRecursion (Touch m e) (between from to xs)
       pub ends : (d : E) → to < length xs → Touch m e (get_or xs to d) → ⊥
 
     module _ (xs : List E) (e : E) (from to : ℕ) (f : Reached xs e from to) (ps : List E) (h : canonical m xs ≡ true) (rest : Rest e (between from to xs) ps) where
@@ -247,7 +247,7 @@ module _ {E A C : Type 0} (m : KindModel E A C) where
       pub removed_cover : (a : A) → cover m (take from xs ++ (ps ++ drop to xs)) a ≡ (cover m xs a && not (covers m e a))
       removed_cover a =
           let p = f.parted h in
-          let none = subst (All (λ x. ahead m x e ≡ false)) (split_rest xs from to f.low) p.back in
+          let none = subst (AllByRecursion (λ x. ahead m x e ≡ false)) (split_rest xs from to f.low) p.back in
           let q = pairs_right m (between from to xs) (drop to xs) (pairs_right m (take from xs) (between from to xs ++ drop to xs) three) in
           let b = before_rest m r e e [] (drop to xs) (whole_none m e) q (all_right _ (between from to xs) (drop to xs) none) clear in
           rest_cover e (take from xs) (between from to xs) ps (drop to xs) a p.front b rest ∙ ap (λ l. cover m l a && not (covers m e a)) (sym (split_between xs from to f.low))

@@ -1,14 +1,14 @@
 -- What is found in a list for one element: where it belongs, what it touches, what it makes with that, what it leaves of it.
 use Rattle.std.specs.Prelude.{◌≡◌, ℕ, Bool, true, false, ◌||◌, List, [], ◌∷◌, ◌++◌, take, drop, ◌≤ℤ◌, Some, None, Option}
 use Rattle.std.specs.Int.{int_max, int_min}
-use Rattle.std.specs.List.{AllByRecursion as All}
+use Rattle.std.specs.List.{AllByRecursion}
 use Rattle.kinds.specs.Model.{KindModel, covers}
 use Rattle.sheets.specs.Cover.{cover, ahead}
 
 -- the first n elements pass, and the others do not
 pub record Parted {E : Type 0} (test : E → Bool) (xs : List E) (n : ℕ) : Type 0 where
-  pub front : All (λ x. test x ≡ true) (take n xs)
-  pub back : All (λ x. test x ≡ false) (drop n xs)
+  pub front : AllByRecursion (λ x. test x ≡ true) (take n xs)
+  pub back : AllByRecursion (λ x. test x ≡ false) (drop n xs)
 
 -- the elements that there are
 abbrev pub one_listed : {E : Type 0} → Option E → List E
@@ -42,5 +42,5 @@ module _ {E A C : Type 0} (m : KindModel E A C) where
   -- w is what e and the elements of xs make together
   pub record Whole (e : E) (xs : List E) (w : E) : Type 0 where
     pub all : (a : A) → covers m w a ≡ (cover m xs a || covers m e a)
-    pub after : (x : E) → ahead m x e ≡ true → All (λ y. ahead m x y ≡ true) xs → ahead m x w ≡ true
+    pub after : (x : E) → ahead m x e ≡ true → AllByRecursion (λ y. ahead m x y ≡ true) xs → ahead m x w ≡ true
     pub less : (x : E) → ahead m x w ≡ true → ahead m x e ≡ true

@@ -1,6 +1,6 @@
 // One element in a list of others.
 ghost use Rattle.std.specs.Prelude.{◌≡◌, ℕ, ◌+◌, ◌<◌, ◌≤◌, true, length, slice_index_or};
-ghost use Rattle.std.specs.List.{between, AllByRecursion as All};
+ghost use Rattle.std.specs.List.{between, AllByRecursion};
 ghost use Rattle.kinds.specs.Rules.{Touch};
 ghost use Rattle.sheets.specs.Cover.{ahead, canonical};
 ghost use Rattle.sheets.specs.Finding.{Parted, Whole};
@@ -53,7 +53,7 @@ pub fn reach<K: Kind>(xs: &[K], from: usize, e: &K) -> usize
     requires { from ≤ length xs.now }
     ensures low { from ≤ result }
     ensures high { result ≤ length xs.now }
-    ensures all { All (Touch K.model e.now) (between from result xs.now) }
+    ensures all { AllByRecursion (Touch K.model e.now) (between from result xs.now) }
     ensures ends { (d : K) → result < length xs.now → Touch K.model e.now (slice_index_or xs.now result d) → ⊥ }
 {
     let mut to = from;

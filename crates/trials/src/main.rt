@@ -9,7 +9,7 @@ use elements::ink::Ink;
 use elements::point::Point;
 use lattice::refusal::Refusal;
 use output::refusals::refusal_line;
-use reading::numbers::read_length;
+use reading::decimals::read_length;
 use run::bodies::Stop;
 use run::run::run;
 use run::tables::Tables;
