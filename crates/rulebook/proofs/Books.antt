@@ -9,7 +9,7 @@ use Rattle.kinds.specs.Model.{KindModel, covers}
 use Rattle.sheets.specs.Cover.{union, cover}
 use Rattle.sheets.specs.Maximal.{Counts}
 use Rattle.grammar.specs.Rules.{Side, Rule}
-use Rattle.rulebook.specs.Growing.{latest_record, SideGrew, TableStayed, Widens, Overflows, slots_of}
+use Rattle.rulebook.specs.Growing.{TableStayed, Overflows}
 use Rattle.rulebook.specs.Rulebooks.{side_of, KeptSide}
 use Rattle.rulebook.specs.Tables.{stretch_of}
 use Rattle.rulebook.specs.declared.records.RuleRecord.{RuleRecord}
@@ -70,7 +70,7 @@ module _ {EM AM CM EC Ac CC : Type 0} (M : KindModel EM AM CM) (C : KindModel EC
         sym (sum_by-cons (λ s. length (stretch_of t.cuts.slots.now s)) (this r).cuts (map (λ (s : SideRecord). s.cuts) (map this rs)))
 
     -- a table that stayed has no room for the sum
-    pub overflows : (stroke : Stroke EM EC) (why : Refusal) (rs : List RuleRecord) (x : RuleRecord) (u : SideTables EM EC) → KeptSide M C (map this (rs ++ (x ∷ []))) t → TableStayed M C stroke why t u → (number why ≡ 19) × Overflows M C read (slots_of t) stroke (map (rule_at t w) rs) (rule_at t w x)
+    pub overflows : (stroke : Stroke EM EC) (why : Refusal) (rs : List RuleRecord) (x : RuleRecord) (u : SideTables EM EC) → KeptSide M C (map this (rs ++ (x ∷ []))) t → TableStayed M C stroke why t u → (number why ≡ 19) × Overflows M C read t stroke (map (rule_at t w) rs) (rule_at t w x)
     overflows (Mark e) why rs x u k s =
         let p = parted_marks M C (map this rs) (this x) t (parted_side rs x t k) in
         let full = s.full p.tidy in

@@ -6,15 +6,15 @@ use Rattle.lattice.specs.declared.refusal.Refusal.{Refusal}
 use Rattle.kinds.specs.Model.{KindModel}
 use Rattle.grammar.specs.Rules.{Side, Rule}
 use Rattle.lattice.specs.Refusals.{number}
-use Rattle.rulebook.specs.Growing.{latest_record, Closed, SideGrew, TableStayed, Widens, LatestGrew, Grown, NotGrown, Added, left_side, right_side, with_left, with_right, Full, slots_of, SameSlots}
+use Rattle.rulebook.specs.Growing.{latest_record, Closed, SideGrew, TableStayed, Widens, LatestGrew, Grown, Added, left_side, right_side, with_left, with_right, Full}
 use Rattle.rulebook.specs.Rulebooks.{side_of, rule_of, rules_of, kept, bare, KeptSide, Kept}
 use Rattle.rulebook.specs.declared.records.RuleRecord.{RuleRecord}
 use Rattle.rulebook.specs.declared.records.SideRecord.{SideRecord}
 use Rattle.rulebook.specs.declared.rulebook.Rulebook.{Rulebook}
 use Rattle.rulebook.specs.declared.rulebook.SideTables.{SideTables}
 use Rattle.rulebook.specs.declared.stroke.Stroke.{Stroke}
-use Rattle.rulebook.proofs.Books.{kept_before, kept_after, rule_at, same_rules, parted_side, side_again, rules_parted, overflows}
-use Rattle.rulebook.proofs.Sides.{SideResult, side_grown, ClosedResult, side_closed, slots_grown, slots_closed}
+use Rattle.rulebook.proofs.Books.{kept_before, kept_after, rule_at, same_rules, parted_side, side_again, overflows}
+use Rattle.rulebook.proofs.Sides.{SideResult, side_grown, ClosedResult, side_closed}
 
 abbrev pub blank : RuleRecord
 blank = record { left = record { marks = record { from = 0; to = 0 }; cuts = record { from = 0; to = 0 } }; right = record { marks = record { from = 0; to = 0 }; cuts = record { from = 0; to = 0 } } }
@@ -35,7 +35,6 @@ module _ {EM AM CM EC Ac CC : Type 0} (M : KindModel EM AM CM) (C : KindModel EC
     pub taken : (b : Rulebook EM EC) → Kept M C b → KeptSide M C (map this (kept b)) (mine b)
     pub left : (b : Rulebook EM EC) → Kept M C b → KeptSide M C (map that (kept b)) (other b)
     pub makes : (b : Rulebook EM EC) → b.count ≤ 32 → length b.records ≡ 32 → KeptSide M C (map this (kept b)) (mine b) → KeptSide M C (map that (kept b)) (other b) → Kept M C b
-    pub both : (b c : Rulebook EM EC) → slots_of (mine c) ≡ slots_of (mine b) → slots_of (other c) ≡ slots_of (other b) → SameSlots b c
 
   abbrev pub left_half : Half
   left_half = record {
@@ -52,7 +51,6 @@ module _ {EM AM CM EC Ac CC : Type 0} (M : KindModel EM AM CM) (C : KindModel EC
     taken = λ b k. k.left;
     left = λ b k. k.right;
     makes = λ b f n p q. record { few = f; slots = n; left = p; right = q };
-    both = λ b c p q. record { left = p; right = q };
   }
 
   abbrev pub right_half : Half
@@ -70,7 +68,6 @@ module _ {EM AM CM EC Ac CC : Type 0} (M : KindModel EM AM CM) (C : KindModel EC
     taken = λ b k. k.right;
     left = λ b k. k.left;
     makes = λ b f n p q. record { few = f; slots = n; left = q; right = p };
-    both = λ b c p q. record { left = q; right = p };
   }
 
   module _ (H : Half) where
@@ -131,11 +128,7 @@ module _ {EM AM CM EC Ac CC : Type 0} (M : KindModel EM AM CM) (C : KindModel EC
 
     -- a side of the latest rule grew
     pub grown : (stroke : Stroke EM EC) (b c : Rulebook EM EC) (i : ℕ) (x y : RuleRecord) → Rewritten b c i x y → SideGrew M C stroke (H.mine b) (H.mine c) → Grown M C H.read H.with stroke b c
-    grown stroke b c i x y h g = record {
-      rules = λ k. grew (result k);
-      kept = λ k. keeps stroke b c i x y h k (result k);
-      slots = H.both b c (slots_grown M C stroke (H.mine b) (H.mine c) g) (ap slots_of h.other);
-    } where
+    grown stroke b c i x y h g = record { rules = λ k. grew (result k); kept = λ k. keeps stroke b c i x y h k (result k) } where
       result : Kept M C b → Result stroke b c i x
       result k = side_grown M C stroke (map H.this (take i b.records)) (H.this x) (H.mine b) (H.mine c) (parted_side M C H.this H.that H.build (take i b.records) x (H.mine b) (mine_parted b c i x y h k)) g
 
@@ -154,7 +147,7 @@ module _ {EM AM CM EC Ac CC : Type 0} (M : KindModel EM AM CM) (C : KindModel EC
           }
 
     -- it had no room to grow
-    pub full : (stroke : Stroke EM EC) (why : Refusal) (b : Rulebook EM EC) (i : ℕ) (x d : RuleRecord) (u : SideTables EM EC) → b.count ≡ i + 1 → i < length b.records → x ≡ get_or b.records i d → TableStayed M C stroke why (H.mine b) u → Kept M C b → (number why ≡ 19) × Full M C H.read (slots_of (H.mine b)) stroke b
+    pub full : (stroke : Stroke EM EC) (why : Refusal) (b : Rulebook EM EC) (i : ℕ) (x d : RuleRecord) (u : SideTables EM EC) → b.count ≡ i + 1 → i < length b.records → x ≡ get_or b.records i d → TableStayed M C stroke why (H.mine b) u → Kept M C b → (number why ≡ 19) × Full M C H.read (H.mine b) stroke b
     full stroke why b i x d u n l r s k =
         let rs = take i b.records in
         let was = kept_before b.records b.count i x d n l r in
@@ -189,7 +182,7 @@ module _ {EM AM CM EC Ac CC : Type 0} (M : KindModel EM AM CM) (C : KindModel EC
         (side_again M C H.this H.that H.build (kept b) y (latest_record (H.mine c)) (H.mine c) e q.kept)
 
   pub added : (b c : Rulebook EM EC) (y : RuleRecord) → Appended b c y → Added M C b c
-  added b c y h = record { rules = rules; kept = keeps_all; slots = record { left = slots_closed b.left c.left h.left_closed; right = slots_closed b.right c.right h.right_closed } } where
+  added b c y h = record { rules = rules; kept = keeps_all } where
     left_result : Kept M C b → ClosedResult M C (map (λ (r : RuleRecord). r.left) (kept b)) b.left c.left
     left_result k = side_closed M C (map (λ (r : RuleRecord). r.left) (kept b)) b.left c.left k.left h.left_closed
 

@@ -1,12 +1,11 @@
 -- Sides of rules, when the latest is closed and when it grows.
-use Rattle.std.proofs.Common.{◌≡◌, ℕ, ◌-◌, List, [], ◌∷◌, ◌++◌, map, length, take, drop, sym, refl, ap, ◌∙◌, subst, arith, MutBor}
+use Rattle.std.proofs.Common.{◌≡◌, ℕ, ◌-◌, List, [], ◌∷◌, ◌++◌, map, take, drop, sym, refl, ap, ◌∙◌, subst, arith, MutBor}
 use mathlib.Core.List.{map-append}
 use Rattle.std.specs.List.{AllByRecursion}
 use Rattle.kinds.specs.Model.{KindModel, covers}
 use Rattle.sheets.specs.Cover.{union, cover}
 use Rattle.sheets.specs.Maximal.{Lists}
-use Rattle.grammar.specs.Rules.{Side}
-use Rattle.rulebook.specs.Growing.{latest_record, Closed, SideGrew, Widens, slots_of}
+use Rattle.rulebook.specs.Growing.{latest_record, Closed, SideGrew, Widens}
 use Rattle.rulebook.specs.Rulebooks.{side_of, KeptTable, KeptSide}
 use Rattle.rulebook.specs.Tables.{stretch_of, latest}
 use Rattle.rulebook.specs.declared.records.SideRecord.{SideRecord}
@@ -42,25 +41,7 @@ all_refl xs (s ∷ ss) = (refl, all_refl xs ss)
 all_is : {E : Type 0} (xs ys : List E) (ss : List Stretch) → xs ≡ ys → AllByRecursion (λ r. stretch_of xs r ≡ stretch_of ys r) ss
 all_is xs ys ss e = subst (λ zs. AllByRecursion (λ r. stretch_of xs r ≡ stretch_of zs r) ss) e (all_refl xs ss)
 
--- tables that were closed have as many slots as before
-pub slots_closed : {EM EC : Type 0} (t u : SideTables EM EC) → Closed t u → slots_of u ≡ slots_of t
-slots_closed t u h =
-    let m = h.mark_slots in
-    let c = h.cut_slots in
-    λ i. record { marks = length (m i).now; cuts = length (c i).now }
-
 module _ {EM AM CM EC Ac CC : Type 0} (M : KindModel EM AM CM) (C : KindModel EC Ac CC) where
-  -- so have tables that grew
-  pub slots_grown : (stroke : Stroke EM EC) (t u : SideTables EM EC) → SideGrew M C stroke t u → slots_of u ≡ slots_of t
-  slots_grown (Mark e) t u h =
-      let m = h.0.room in
-      let c = h.1 in
-      λ i. record { marks = m i; cuts = length (c i).slots.now }
-  slots_grown (Cut e) t u h =
-      let m = h.0 in
-      let c = h.1.room in
-      λ i. record { marks = length (m i).slots.now; cuts = c i }
-
   -- the two chains of the sides before the latest, and of the latest
   pub parted_marks : (ss : List SideRecord) (s : SideRecord) (t : SideTables EM EC) → KeptSide M C (ss ++ (s ∷ [])) t → KeptTable M (map mark_stretch ss ++ (s.marks ∷ [])) t.marks
   parted_marks ss s t k = subst (λ rs. KeptTable M rs t.marks) (map-append mark_stretch ss (s ∷ [])) k.marks

@@ -14,19 +14,6 @@ use Rattle.rulebook.specs.declared.rulebook.SideTables.{SideTables}
 use Rattle.rulebook.specs.declared.stroke.Stroke.{Stroke}
 use Rattle.rulebook.specs.declared.stroke.Stroke.TheVariants.{Mark, Cut}
 
--- how many slots the two tables of a side have
-pub record Slots : Type 0 where
-  pub marks : ℕ
-  pub cuts : ℕ
-
-abbrev pub slots_of : {EM EC : Type 0} → SideTables EM EC → Slots
-slots_of t = record { marks = length t.marks.slots.now; cuts = length t.cuts.slots.now }
-
--- the tables have as many slots as before
-pub record SameSlots {EM EC : Type 0} (b c : Rulebook EM EC) : Type 0 where
-  pub left : slots_of c.left ≡ slots_of b.left
-  pub right : slots_of c.right ≡ slots_of b.right
-
 -- the stretches of the latest rule
 abbrev pub latest_record : {EM EC : Type 0} → SideTables EM EC → SideRecord
 latest_record t = record { marks = record { from = t.marks.from; to = t.marks.used }; cuts = record { from = t.cuts.from; to = t.cuts.used } }
@@ -57,7 +44,6 @@ module _ {EM AM CM EC Ac CC : Type 0} (M : KindModel EM AM CM) (C : KindModel EC
   pub record Added (b c : Rulebook EM EC) : Type 0 where
     pub rules : Kept M C b → rules_of c ≡ rules_of b ++ (bare ∷ [])
     pub kept : Kept M C b → Kept M C c
-    pub slots : SameSlots b c
 
   -- the rulebook is as it was, and has 32 rules
   pub record NotAdded (why : Refusal) (b c : Rulebook EM EC) : Type 0 where
@@ -78,25 +64,24 @@ module _ {EM AM CM EC Ac CC : Type 0} (M : KindModel EM AM CM) (C : KindModel EC
   pub record Grown (read : Rule EM EC → Side EM EC) (with : Rule EM EC → Side EM EC → Rule EM EC) (stroke : Stroke EM EC) (b c : Rulebook EM EC) : Type 0 where
     pub rules : Kept M C b → LatestGrew read with stroke b c
     pub kept : Kept M C b → Kept M C c
-    pub slots : SameSlots b c
 
   -- with the stroke's element the side's table would have to hold more elements, those of all rules together, than it has slots
-  abbrev pub Overflows : (Rule EM EC → Side EM EC) → Slots → Stroke EM EC → List (Rule EM EC) → Rule EM EC → Type 0
-  Overflows read slots (Mark e) earlier latest =
-      (n : ℕ) × Counts M (union (cover M (read latest).marks) (covers M e)) n × (slots.marks < sum_by (λ r. length (read r).marks) earlier + n)
-  Overflows read slots (Cut e) earlier latest =
-      (n : ℕ) × Counts C (union (cover C (read latest).cuts) (covers C e)) n × (slots.cuts < sum_by (λ r. length (read r).cuts) earlier + n)
+  abbrev pub Overflows : (Rule EM EC → Side EM EC) → SideTables EM EC → Stroke EM EC → List (Rule EM EC) → Rule EM EC → Type 0
+  Overflows read t (Mark e) earlier latest =
+      (n : ℕ) × Counts M (union (cover M (read latest).marks) (covers M e)) n × (length t.marks.slots.now < sum_by (λ r. length (read r).marks) earlier + n)
+  Overflows read t (Cut e) earlier latest =
+      (n : ℕ) × Counts C (union (cover C (read latest).cuts) (covers C e)) n × (length t.cuts.slots.now < sum_by (λ r. length (read r).cuts) earlier + n)
 
-  pub record Full (read : Rule EM EC → Side EM EC) (slots : Slots) (stroke : Stroke EM EC) (b : Rulebook EM EC) : Type 0 where
+  pub record Full (read : Rule EM EC → Side EM EC) (t : SideTables EM EC) (stroke : Stroke EM EC) (b : Rulebook EM EC) : Type 0 where
     pub earlier : List (Rule EM EC)
     pub latest : Rule EM EC
     pub before : rules_of b ≡ earlier ++ (latest ∷ [])
-    pub overflows : Overflows read slots stroke earlier latest
+    pub overflows : Overflows read t stroke earlier latest
 
   -- the rulebook is as it was: there is no rule, or no room
-  pub record NotGrown (read : Rule EM EC → Side EM EC) (slots : Slots) (stroke : Stroke EM EC) (why : Refusal) (b c : Rulebook EM EC) : Type 0 where
+  pub record NotGrown (read : Rule EM EC → Side EM EC) (t : SideTables EM EC) (stroke : Stroke EM EC) (why : Refusal) (b c : Rulebook EM EC) : Type 0 where
     pub same : c ≡ b
-    pub cause : Kept M C b → ((number why ≡ 9) × (rules_of b ≡ [])) ⊎ ((number why ≡ 19) × Full read slots stroke b)
+    pub cause : Kept M C b → ((number why ≡ 9) × (rules_of b ≡ [])) ⊎ ((number why ≡ 19) × Full read t stroke b)
 
 abbrev pub left_side : {EM EC : Type 0} → Rule EM EC → Side EM EC
 left_side r = r.left

@@ -1,7 +1,7 @@
 // Rules are added, and their sides grow, element by element.
 ghost use Rattle.std.specs.Prelude.{◌≡◌, ◌≤◌, [], length, MatchOption, MatchResult};
 ghost use Rattle.lattice.specs.Refusals.{number as Number};
-ghost use Rattle.rulebook.specs.Growing.{latest_record as LatestRecord, Closed, SideGrew, TableStayed, Added, NotAdded, Grown, NotGrown, slots_of, left_side, right_side, with_left, with_right};
+ghost use Rattle.rulebook.specs.Growing.{latest_record as LatestRecord, Closed, SideGrew, TableStayed, Added, NotAdded, Grown, NotGrown, left_side, right_side, with_left, with_right};
 ghost use Rattle.grammar.specs.Numbers.{ordinal as Ordinal};
 ghost use Rattle.rulebook.specs.Rulebooks.{rules_of as RulesOf, rule_of as RuleOf, KeptSide, Kept, Finds, NoNumber, HasNumber};
 
@@ -60,8 +60,6 @@ impl<'a, M: Kind, C: Kind> Rulebook<'a, M, C> {
     // No rule, and tables for the sides of all.
     pub fn new(left: SideTables<'a, M, C>, right: SideTables<'a, M, C>) -> Rulebook<'a, M, C>
         ensures rules { RulesOf result ≡ [] }
-        ensures left { slots_of result.left ≡ slots_of left.entry }
-        ensures right { slots_of result.right ≡ slots_of right.entry }
         ensures kept { KeptSide M.Kind.model C.Kind.model [] left.entry → KeptSide M.Kind.model C.Kind.model [] right.entry → Kept M.Kind.model C.Kind.model result }
     {
         let side = SideRecord {
@@ -98,7 +96,7 @@ impl<'a, M: Kind, C: Kind> Rulebook<'a, M, C> {
 
     // The left side of the latest rule becomes its sum with one element.
     pub fn left(&mut self, stroke: Stroke<M, C>) -> Result<(), Refusal>
-        ensures { MatchResult result (λ _. Grown M.Kind.model C.Kind.model left_side with_left stroke self.old self.new) (λ why. NotGrown M.Kind.model C.Kind.model left_side (slots_of self.old.left) stroke why self.old self.new) }
+        ensures { MatchResult result (λ _. Grown M.Kind.model C.Kind.model left_side with_left stroke self.old self.new) (λ why. NotGrown M.Kind.model C.Kind.model left_side self.old.left stroke why self.old self.new) }
     {
         let n = self.count;
         if n == 0 || n > MOST_RULES {
@@ -113,7 +111,7 @@ impl<'a, M: Kind, C: Kind> Rulebook<'a, M, C> {
 
     // The right side of the latest rule becomes its sum with one element.
     pub fn right(&mut self, stroke: Stroke<M, C>) -> Result<(), Refusal>
-        ensures { MatchResult result (λ _. Grown M.Kind.model C.Kind.model right_side with_right stroke self.old self.new) (λ why. NotGrown M.Kind.model C.Kind.model right_side (slots_of self.old.right) stroke why self.old self.new) }
+        ensures { MatchResult result (λ _. Grown M.Kind.model C.Kind.model right_side with_right stroke self.old self.new) (λ why. NotGrown M.Kind.model C.Kind.model right_side self.old.right stroke why self.old self.new) }
     {
         let n = self.count;
         if n == 0 || n > MOST_RULES {

@@ -18,13 +18,6 @@ pub struct Listing {
     pub bodies: usize,
 }
 
-impl Listing {
-    // Where the body of the first rule begins.
-    pub(crate) fn rules(&self) -> usize {
-        self.bodies.saturating_add(self.contents.start as usize)
-    }
-}
-
 // How many bytes the bodies have together.
 fn total(contents: &Contents) -> u64 {
     let mut sum = contents.start as u64 + contents.steps as u64;
