@@ -14,6 +14,7 @@ use segments::segment::Segment;
 use std::alloc::Global;
 use std::io;
 use std::io::{Read, Write};
+use std::process::ExitCode;
 
 // How many slots each table has, how many bytes the output may have, and how many of a file are read: one more than the
 // longest file has, so that a longer one is told from it.
@@ -68,7 +69,7 @@ fn told(refused: Refused, out: &mut [u8]) -> io::Result<usize> {
     }
 }
 
-fn main(rt: HostRuntime) -> io::Result<()> {
+fn main(rt: HostRuntime) -> io::Result<ExitCode> {
     let heap = rt.alloc();
     let mut file = Vec::new(heap);
     let _ = rt.stdin().take(READ).read_to_end(&mut file)?;
@@ -78,11 +79,12 @@ fn main(rt: HostRuntime) -> io::Result<()> {
         Err(Stop::Refused(refused)) => told(refused, out.as_mut_slice())?,
         Err(Stop::PickAhead(line)) => {
             eprintln!(rt; "panel: line {line} is a pick, and picks are not carried out yet")?;
-            return Err(io::Error::from(io::ErrorKind::InvalidInput));
+            return Ok(ExitCode::FAILURE);
         }
     };
     let n = n.min(out.len());
     let mut stdout = rt.stdout();
     stdout.write_all(&out.as_slice()[0..n])?;
-    stdout.flush()
+    stdout.flush()?;
+    Ok(ExitCode::SUCCESS)
 }
