@@ -1,6 +1,8 @@
+-- The definitions that contracts cite.
 pub mod Points
 pub mod Inks
-pub mod InkRules
+-- Lemmas, proved: by them the impls prove the law of kinds. They stand here since an impl can cite nothing of proofs/.
 pub mod Orders
-pub mod PointRules
 pub mod Covering
+pub mod PointRules
+pub mod InkRules
