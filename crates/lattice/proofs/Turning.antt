@@ -1,13 +1,11 @@
 -- What the turns keep.
-use Rattle.std.proofs.Common.{◌≡◌, ℕ, zero, suc, ◌<◌, ◌≤◌, true, List, [], ◌∷◌, get_or, ℤ, pos, negsuc, ◌+ℤ◌, ◌*ℤ◌, neg_ℤ, nat_abs, ◌≤ℤ◌, sym, refl, subst, arith}
-use lib.Signed.{le_z_yes}
+use Rattle.std.proofs.Common.{◌≡◌, ℕ, zero, suc, ◌<◌, ◌≤◌, true, ℤ, pos, negsuc, ◌+ℤ◌, ◌*ℤ◌, neg_ℤ, nat_abs, sym, refl, subst, arith}
 use Rattle.std.proofs.lemmas.Int.{ints}
-use Rattle.std.proofs.lemmas.Bool.{ltb-true}
 use Rattle.numbers.proofs.Ring.{times_neg}
 use Rattle.lattice.specs.Field.{ranged}
-use Rattle.lattice.specs.Turns.{across, upward}
-use Rattle.lattice.specs.Rows.{Row, entry}
+use Rattle.lattice.specs.Turns.{index, across, upward}
 use Rattle.lattice.specs.declared.turn.Turn.{Turn}
+use Rattle.lattice.specs.declared.turn.Turn.TheVariants.{Whole, Quarter, Half, ThreeQuarters, Mirrored, MirroredQuarter, MirroredHalf, MirroredThreeQuarters}
 use Rattle.lattice.proofs.Bounds.{ranged_size, size_ranged}
 
 -- what holds of each of the eight
@@ -22,8 +20,8 @@ by_turn P a b c d e f g h (suc (suc (suc (suc (suc (suc zero)))))) l = g
 by_turn P a b c d e f g h (suc (suc (suc (suc (suc (suc (suc zero))))))) l = h
 by_turn P a b c d e f g h (suc (suc (suc (suc (suc (suc (suc (suc n)))))))) l = absurd (omega arith)
 
-pub below_eight : (t : Turn) → t.index < 8
-below_eight t = ltb-true t.index 8 t.proper
+pub below_eight : (t : Turn) → index t < 8
+below_eight = elim [ Whole ↦ omega arith | Quarter ↦ omega arith | Half ↦ omega arith | ThreeQuarters ↦ omega arith | Mirrored ↦ omega arith | MirroredQuarter ↦ omega arith | MirroredHalf ↦ omega arith | MirroredThreeQuarters ↦ omega arith ]
 
 -- ---- sums and multiples
 neg_plus : (x p : ℤ) → neg_ℤ (x +ℤ p) ≡ neg_ℤ x +ℤ neg_ℤ p
@@ -74,65 +72,3 @@ pub ranged_back : (x y : ℤ) (s : ℕ) → s < 8 → ranged (across s x y) ≡ 
 ranged_back x y s l h k =
     let t = by_sizes (λ a b. a ≤ 2000 → b ≤ 2000 → (nat_abs x ≤ 2000) × (nat_abs y ≤ 2000)) x y (λ a b. (a, b)) (λ a b. (b, a)) s l (ranged_size (across s x y) h) (ranged_size (upward s x y) k) in
     (size_ranged x t.0, size_ranged y t.1)
-
--- ---- the table of turns
-abbrev pub turns : List (List ℤ)
-turns =
-    (pos 1 ∷ pos 0 ∷ pos 0 ∷ pos 1 ∷ [])
-    ∷ (pos 0 ∷ negsuc 0 ∷ pos 1 ∷ pos 0 ∷ [])
-    ∷ (negsuc 0 ∷ pos 0 ∷ pos 0 ∷ negsuc 0 ∷ [])
-    ∷ (pos 0 ∷ pos 1 ∷ negsuc 0 ∷ pos 0 ∷ [])
-    ∷ (negsuc 0 ∷ pos 0 ∷ pos 0 ∷ pos 1 ∷ [])
-    ∷ (pos 0 ∷ negsuc 0 ∷ negsuc 0 ∷ pos 0 ∷ [])
-    ∷ (pos 1 ∷ pos 0 ∷ pos 0 ∷ negsuc 0 ∷ [])
-    ∷ (pos 0 ∷ pos 1 ∷ pos 1 ∷ pos 0 ∷ [])
-    ∷ []
-
-zero_one : (x y : ℤ) → x ≡ pos 1 *ℤ x +ℤ pos 0 *ℤ y
-zero_one x y = omega (arith, ints)
-
-neg_one : (x y : ℤ) → neg_ℤ x ≡ negsuc 0 *ℤ x +ℤ pos 0 *ℤ y
-neg_one x y = omega (arith, ints)
-
-one_zero : (x y : ℤ) → y ≡ pos 0 *ℤ x +ℤ pos 1 *ℤ y
-one_zero x y = omega (arith, ints)
-
-one_neg : (x y : ℤ) → neg_ℤ y ≡ pos 0 *ℤ x +ℤ negsuc 0 *ℤ y
-one_neg x y = omega (arith, ints)
-
-abbrev Unity : ℤ → Type 0
-Unity z = (negsuc 0 ≤ℤ z) × (z ≤ℤ pos 1)
-
-unities : (a b c d : ℤ) → Unity a → Unity b → Unity c → Unity d → (i : ℕ) → Unity (entry (a ∷ b ∷ c ∷ d ∷ []) i)
-unities a b c d p q r t zero = p
-unities a b c d p q r t (suc zero) = q
-unities a b c d p q r t (suc (suc zero)) = r
-unities a b c d p q r t (suc (suc (suc zero))) = t
-unities a b c d p q r t (suc (suc (suc (suc i)))) = (le_z_yes tt, le_z_yes tt)
-
--- the whole table is right
-pub table : (s : ℕ) → s < 8 → Row s (get_or turns s [])
-unfolding across upward
-table =
-    let o : Unity (pos 1) = (le_z_yes tt, le_z_yes tt) in
-    let z : Unity (pos 0) = (le_z_yes tt, le_z_yes tt) in
-    let n : Unity (negsuc 0) = (le_z_yes tt, le_z_yes tt) in
-    by_turn (λ s. Row s (get_or turns s []))
-    (made 0 _ _ _ _ zero_one one_zero o z z o)
-    (made 1 _ _ _ _ one_neg zero_one z n o z)
-    (made 2 _ _ _ _ neg_one one_neg n z z n)
-    (made 3 _ _ _ _ one_zero neg_one z o n z)
-    (made 4 _ _ _ _ neg_one one_zero n z z o)
-    (made 5 _ _ _ _ one_neg neg_one z n n z)
-    (made 6 _ _ _ _ zero_one one_neg o z z n)
-    (made 7 _ _ _ _ one_zero zero_one z o o z) where
-      made : (s : ℕ) (a b c d : ℤ) → ((x y : ℤ) → across s x y ≡ a *ℤ x +ℤ b *ℤ y) → ((x y : ℤ) → upward s x y ≡ c *ℤ x +ℤ d *ℤ y) → Unity a → Unity b → Unity c → Unity d → Row s (a ∷ b ∷ c ∷ d ∷ [])
-      made s a b c d f g p q r t = record { sideways = f; upwards = g; low = λ i. (unities a b c d p q r t i).0; high = λ i. (unities a b c d p q r t i).1 }
-
--- a unit, 0 or less one makes no number larger
-pub unity_times : (b z : ℤ) → negsuc 0 ≤ℤ b → b ≤ℤ pos 1 → nat_abs (b *ℤ z) ≤ nat_abs z
-unity_times (pos zero) z h k = omega (arith, ints)
-unity_times (pos (suc zero)) z h k = omega (arith, ints)
-unity_times (pos (suc (suc n))) z h k = absurd (omega (arith, ints))
-unity_times (negsuc zero) z h k = omega (arith, ints)
-unity_times (negsuc (suc n)) z h k = absurd (omega (arith, ints))

@@ -1,6 +1,5 @@
 pub mod Field
 pub mod Turns
-pub mod Rows
 pub mod Refusals
 pub mod Order
 pub mod Valid

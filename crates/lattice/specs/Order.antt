@@ -1,5 +1,6 @@
 -- The order of placements: by turn, then by the shift across, then by the shift up.
 use Rattle.std.specs.Prelude.{◌≡◌, ◌⊎◌, ℤ, pos, ◌<ℤ◌}
+use Rattle.lattice.specs.Turns.{index}
 use Rattle.lattice.specs.declared.placement.Placement.{Placement}
 
 -- any three whole numbers, read as a turn, a shift across and a shift up
@@ -12,7 +13,7 @@ abbrev pub read : ℤ → ℤ → ℤ → Triple
 read turn across up = record { turn = turn; across = across; up = up }
 
 abbrev pub triple : Placement → Triple
-triple p = read (pos p.turn.index) p.across p.up
+triple p = read (pos (index p.turn)) p.across p.up
 
 -- a comes before b
 abbrev pub Before : Triple → Triple → Type 0

@@ -1,5 +1,17 @@
--- The eight turns: where each takes the point (x, y). Past the eighth nothing is said.
+-- The eight turns: the index of each, and where the turn of an index takes the point (x, y). Past the eighth nothing is said.
 use Rattle.std.specs.Prelude.{ℕ, [], ◌∷◌, ℤ, neg_ℤ, slice_index_or}
+use Rattle.lattice.specs.declared.turn.Turn.{Turn}
+use Rattle.lattice.specs.declared.turn.Turn.TheVariants.{Whole, Quarter, Half, ThreeQuarters, Mirrored, MirroredQuarter, MirroredHalf, MirroredThreeQuarters}
+
+abbrev pub index : Turn → ℕ
+index Whole = 0
+index Quarter = 1
+index Half = 2
+index ThreeQuarters = 3
+index Mirrored = 4
+index MirroredQuarter = 5
+index MirroredHalf = 6
+index MirroredThreeQuarters = 7
 
 -- across, one entry for each turn
 unfoldable pub across : ℕ → ℤ → ℤ → ℤ

@@ -1,35 +1,14 @@
-// How two numbers compare; and the order of placements: by turn, then by the shift across, then by the shift up.
+// The order of placements: by turn, then by the shift across, then by the shift up.
 ghost use Rattle.std.specs.Prelude.{◌≡◌, Decides};
-ghost use Rattle.lattice.specs.Compare.{ordering};
 ghost use Rattle.lattice.specs.Order.{Before, Earlier, triple as Triple, read as Reading};
 
 use crate::placement::Placement;
-use std::cmp::Ordering;
-
-// How two whole numbers compare.
-pub fn compare(a: i32, b: i32) -> Ordering
-    ensures { result ≡ ordering a b }
-{
-    if a < b {
-        Ordering::Less
-    } else if b < a {
-        Ordering::Greater
-    } else {
-        Ordering::Equal
-    }
-}
 
 // Whether the one comes before the other, both read as a turn, a shift across and a shift up.
 pub fn before(a: (i32, i32, i32), b: (i32, i32, i32)) -> bool
     ensures { Decides result (Before (Reading a.0 a.1 a.2) (Reading b.0 b.1 b.2)) }
 {
-    if a.0 != b.0 {
-        return a.0 < b.0;
-    }
-    if a.1 != b.1 {
-        return a.1 < b.1;
-    }
-    a.2 < b.2
+    a < b
 }
 
 impl Placement {

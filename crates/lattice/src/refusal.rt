@@ -4,26 +4,26 @@ ghost use Rattle.lattice.specs.Refusals.{number as Number};
 
 #[derive(Clone, Copy, PartialEq, Eq, Debug)]
 pub enum Refusal {
-    NotAGrammar,
-    BadContents,
-    BadLengths,
-    BadLine,
-    BadNumber,
-    OutOfRange,
-    EqualEnds,
-    RulebookFull,
-    NoRuleYet,
-    BadTables,
-    StepRecorded,
-    NoStep,
-    NoSuchRule,
-    EmptyLeft,
-    NoSuchPlace,
-    LeavesField,
-    StepsFull,
-    NoRoom,
-    SheetFull,
-    BufferFull,
+    NotAGrammar = 1,
+    BadContents = 2,
+    BadLengths = 3,
+    BadLine = 4,
+    BadNumber = 5,
+    OutOfRange = 6,
+    EqualEnds = 7,
+    RulebookFull = 8,
+    NoRuleYet = 9,
+    BadTables = 10,
+    StepRecorded = 11,
+    NoStep = 12,
+    NoSuchRule = 13,
+    EmptyLeft = 14,
+    NoSuchPlace = 15,
+    LeavesField = 16,
+    StepsFull = 17,
+    NoRoom = 18,
+    SheetFull = 19,
+    BufferFull = 20,
 }
 
 impl Refusal {
@@ -31,27 +31,6 @@ impl Refusal {
     pub fn number(self) -> u8
         ensures { result ≡ Number self }
     {
-        match self {
-            Refusal::NotAGrammar => 1,
-            Refusal::BadContents => 2,
-            Refusal::BadLengths => 3,
-            Refusal::BadLine => 4,
-            Refusal::BadNumber => 5,
-            Refusal::OutOfRange => 6,
-            Refusal::EqualEnds => 7,
-            Refusal::RulebookFull => 8,
-            Refusal::NoRuleYet => 9,
-            Refusal::BadTables => 10,
-            Refusal::StepRecorded => 11,
-            Refusal::NoStep => 12,
-            Refusal::NoSuchRule => 13,
-            Refusal::EmptyLeft => 14,
-            Refusal::NoSuchPlace => 15,
-            Refusal::LeavesField => 16,
-            Refusal::StepsFull => 17,
-            Refusal::NoRoom => 18,
-            Refusal::SheetFull => 19,
-            Refusal::BufferFull => 20,
-        }
+        self as u8
     }
 }

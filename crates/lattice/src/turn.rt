@@ -1,77 +1,62 @@
-// A turn, valid by type: one of the eight ways in which the lattice lies on itself.
-ghost use Rattle.std.specs.Prelude.{◌≡◌, true, false, pos, negsuc, ◌+ℤ◌, ◌*ℤ◌, ◌≤ℤ◌, MatchOption, nat_lt};
-ghost use Rattle.lattice.specs.Rows.{Row};
-ghost use Rattle.lattice.specs.Turns.{across as Across, upward as Upward};
+// A turn: one of the eight ways in which the lattice lies on itself.
+ghost use Rattle.std.specs.Prelude.{◌≡◌, true, false, MatchOption, nat_lt};
+ghost use Rattle.lattice.specs.Turns.{index as Index, across as Across, upward as Upward};
 
-#[derive(Clone, Copy)]
-pub struct Turn {
-    index: u8,
-    ghost proper: { nat_lt index 8 ≡ true },
+// In the order of their indices: four quarter turns to the left, and the same of the lattice mirrored left for right.
+#[derive(Clone, Copy, PartialEq, Eq, Debug)]
+pub enum Turn {
+    Whole,
+    Quarter,
+    Half,
+    ThreeQuarters,
+    Mirrored,
+    MirroredQuarter,
+    MirroredHalf,
+    MirroredThreeQuarters,
 }
 
-// Of each turn, what x and y count for across, and then what they count for up.
-const TURNS: [[i64; 4]; 8] = [
-    [1, 0, 0, 1],
-    [0, -1, 1, 0],
-    [-1, 0, 0, -1],
-    [0, 1, -1, 0],
-    [-1, 0, 0, 1],
-    [0, -1, -1, 0],
-    [1, 0, 0, -1],
-    [0, 1, 1, 0],
-];
-
 impl Turn {
+    // All eight, each at its index.
+    pub const ALL: [Turn; 8] = [
+        Turn::Whole,
+        Turn::Quarter,
+        Turn::Half,
+        Turn::ThreeQuarters,
+        Turn::Mirrored,
+        Turn::MirroredQuarter,
+        Turn::MirroredHalf,
+        Turn::MirroredThreeQuarters,
+    ];
+
     // The turn of an index, if there is one.
     pub fn new(index: u8) -> Option<Turn>
-        ensures { MatchOption result (nat_lt index 8 ≡ false) (λ t. (nat_lt index 8 ≡ true) × (t.index ≡ index)) }
+        ensures { MatchOption result (nat_lt index 8 ≡ false) (λ t. (nat_lt index 8 ≡ true) × (Index t ≡ index)) }
     {
-        if index < 8 {
-            Some(Turn { index })
-        } else {
-            None
-        }
+        Turn::ALL.get(usize::from(index)).copied()
     }
 
     pub fn index(self) -> u8
-        ensures { result ≡ self.index }
+        ensures { result ≡ Index self }
     {
-        self.index
+        self as u8
     }
 
     // Where the turn takes a point: across, and up.
+    #[tactic(auto, unfolding(crate::specs::Turns::across, crate::specs::Turns::upward))]
     pub fn turned(self, x: i32, y: i32) -> (i64, i64)
-        ensures across { result.0 ≡ Across self.index x y }
-        ensures upward { result.1 ≡ Upward self.index x y }
+        ensures across { result.0 ≡ Across (Index self) x y }
+        ensures upward { result.1 ≡ Upward (Index self) x y }
     {
-        let row = self.row();
-        (weighed(row[0], x, row[1], y), weighed(row[2], x, row[3], y))
+        let (x, y) = (i64::from(x), i64::from(y));
+        match self {
+            Turn::Whole => (x, y),
+            Turn::Quarter => (-y, x),
+            Turn::Half => (-x, -y),
+            Turn::ThreeQuarters => (y, -x),
+            Turn::Mirrored => (-x, y),
+            Turn::MirroredQuarter => (-y, -x),
+            Turn::MirroredHalf => (x, -y),
+            Turn::MirroredThreeQuarters => (y, x),
+        }
     }
-
-    // The turn's row of the table.
-    fn row(self) -> [i64; 4]
-        ensures { Row self.index result }
-    {
-        TURNS[self.index as usize]
-    }
-}
-
-// A coordinate, the same with the other sign, or 0.
-fn times(by: i64, z: i32) -> i64
-    requires low { negsuc 0 ≤ℤ by }
-    requires high { by ≤ℤ pos 1 }
-    ensures value { result ≡ by *ℤ z }
-    ensures low { negsuc 2147483647 ≤ℤ result }
-    ensures high { result ≤ℤ pos 2147483648 }
-{
-    by * i64::from(z)
-}
-
-// Two coordinates, each as often as it counts.
-fn weighed(a: i64, x: i32, b: i64, y: i32) -> i64
-    requires left { (negsuc 0 ≤ℤ a) × (a ≤ℤ pos 1) }
-    requires right { (negsuc 0 ≤ℤ b) × (b ≤ℤ pos 1) }
-    ensures { result ≡ a *ℤ x +ℤ b *ℤ y }
-{
-    times(a, x) + times(b, y)
 }

@@ -1,6 +1,7 @@
 use Rattle.std.proofs.Common.{◌≤◌, ℤ, ◌+ℤ◌, nat_abs, arith, w32, w64, SFits, rules}
 use Rattle.std.proofs.lemmas.Int.{ints, to_z-of_z}
 use Rattle.lattice.proofs.Turning.{turned_sizes, below_eight}
+use Rattle.lattice.specs.Turns.{index}
 use Rattle.lattice.proofs.Bounds.{shifting_parts}
 use Rattle.lattice.proofs.placement.Placement.moved.Goals as goal
 
@@ -15,7 +16,7 @@ overflow_add-result c =
     let p = simp to_z-of_z at c.turned-x.ensures.across in
     let e = simp to_z-of_z at c.from.ensures in
     let n = sizes c.args.x c.args.y fx fy in
-    let t = turned_sizes 2147483648 c.args.x c.args.y n.0 n.1 c.args.self.turn.index (below_eight c.args.self.turn) in
+    let t = turned_sizes 2147483648 c.args.x c.args.y n.0 n.1 (index c.args.self.turn) (below_eight c.args.self.turn) in
     let s = shifting_parts c.args.self.across c.args.self.sideways in
     omega (arith, ints)
 
@@ -27,7 +28,7 @@ overflow_add-result-2 c =
     let p = simp to_z-of_z at c.turned-x.ensures.upward in
     let e = simp to_z-of_z at c.from-2.ensures in
     let n = sizes c.args.x c.args.y fx fy in
-    let t = turned_sizes 2147483648 c.args.x c.args.y n.0 n.1 c.args.self.turn.index (below_eight c.args.self.turn) in
+    let t = turned_sizes 2147483648 c.args.x c.args.y n.0 n.1 (index c.args.self.turn) (below_eight c.args.self.turn) in
     let s = shifting_parts c.args.self.up c.args.self.upwards in
     omega (arith, ints)
 
@@ -46,7 +47,7 @@ returns c =
     let d = simp to_z-of_z at c.from.ensures in
     let e = simp to_z-of_z at c.from-2.ensures in
     let n = sizes c.args.x c.args.y fx fy in
-    let t = turned_sizes 2147483648 c.args.x c.args.y n.0 n.1 c.args.self.turn.index (below_eight c.args.self.turn) in
+    let t = turned_sizes 2147483648 c.args.x c.args.y n.0 n.1 (index c.args.self.turn) (below_eight c.args.self.turn) in
     let s = shifting_parts c.args.self.across c.args.self.sideways in
     let r = shifting_parts c.args.self.up c.args.self.upwards in
     let hx : SFits w64 (c.turned-x.result.0 +ℤ c.from.result) = omega (arith, ints) in
