@@ -19,9 +19,10 @@ use Rattle.grammar.proofs.Tests.{or_not}
 use Rattle.cases.specs.Cases.{rest}
 use Rattle.cases.proofs.Pieces.{whole, pieces_of, piece_of, piece_covered}
 use Rattle.cases.proofs.Tests.{every, some, every_one, some_one_of, equal_z, equal_z_from, before, before_from, all_pass}
+use Rattle.lattice.specs.Turns.{index}
 
 abbrev pub is_listed : ℕ → ℤ → ℤ → List Placement → Bool
-is_listed s u v ps = some (λ p. eqb p.turn.index s && (equal_z p.across u && equal_z p.up v)) ps
+is_listed s u v ps = some (λ p. eqb (index p.turn) s && (equal_z p.across u && equal_z p.up v)) ps
 
 abbrev pub rising : List Placement → Bool
 rising [] = true
@@ -57,11 +58,11 @@ rising_from (p ∷ ps) h =
     let k = and_parts (every (λ q. before (triple p) (triple q)) ps) (rising ps) h in
     (λ q n. before_from (triple p) (triple q) (every_one (λ z. before (triple p) (triple z)) ps k.0 q (from_mem ps q n)), rising_from ps k.1)
 
-listed_from : (p : Placement) (ps : List Placement) → is_listed p.turn.index p.across p.up ps ≡ true → Mem ps p
+listed_from : (p : Placement) (ps : List Placement) → is_listed (index p.turn) p.across p.up ps ≡ true → Mem ps p
 listed_from p ps h =
-    let x = some_one_of (λ q. eqb q.turn.index p.turn.index && (equal_z q.across p.across && equal_z q.up p.up)) ps h in
+    let x = some_one_of (λ q. eqb (index q.turn) (index p.turn) && (equal_z q.across p.across && equal_z q.up p.up)) ps h in
     let q = x.0 in
-    let a = and_parts (eqb q.turn.index p.turn.index) (equal_z q.across p.across && equal_z q.up p.up) x.2 in
+    let a = and_parts (eqb (index q.turn) (index p.turn)) (equal_z q.across p.across && equal_z q.up p.up) x.2 in
     let b = and_parts (equal_z q.across p.across) (equal_z q.up p.up) a.1 in
     to_mem ps p (subst (λ (z : Placement). Belongs z ps) (same_placement q p (eqb-true _ _ a.0) (equal_z_from _ _ b.0) (equal_z_from _ _ b.1)) x.1)
 
@@ -81,9 +82,9 @@ module _ {E A C : Type 0} (m : KindModel E A C) (k : Computed m) where
   abbrev pub tried : A → List A → (ℕ → ℤ → ℤ → Bool) → List Placement → Bool
   tried from bs test ps = every (λ s. every (λ b. not (test s (k.shifts s from b).0 (k.shifts s from b).1) || is_listed s (k.shifts s from b).0 (k.shifts s from b).1 ps) bs) turns
 
-  pub tried_from : (from : A) (bs : List A) (test : ℕ → ℤ → ℤ → Bool) (ps : List Placement) → tried from bs test ps ≡ true → (p : Placement) → Belongs (moved m p from) bs → test p.turn.index p.across p.up ≡ true → Mem ps p
+  pub tried_from : (from : A) (bs : List A) (test : ℕ → ℤ → ℤ → Bool) (ps : List Placement) → tried from bs test ps ≡ true → (p : Placement) → Belongs (moved m p from) bs → test (index p.turn) p.across p.up ≡ true → Mem ps p
   tried_from from bs test ps h p b t =
-      let s = p.turn.index in
+      let s = (index p.turn) in
       let x = every_one (λ s. every (λ b. not (test s (k.shifts s from b).0 (k.shifts s from b).1) || is_listed s (k.shifts s from b).0 (k.shifts s from b).1 ps) bs) turns h s (a_turn s (turn_below p)) in
       let y = every_one (λ b. not (test s (k.shifts s from b).0 (k.shifts s from b).1) || is_listed s (k.shifts s from b).0 (k.shifts s from b).1 ps) bs x (moved m p from) b in
       let o = k.only s p.across p.up from (moved m p from) refl in
@@ -108,7 +109,7 @@ module _ {EM AM CM EC Ac CC : Type 0} (M : KindModel EM AM CM) (C : KindModel EC
   -- ps are the places of the left side on the drawing
   abbrev pub numbers : Side EM EC → Side EM EC → List Placement → Bool
   numbers l d ps =
-      wholes l && (wholes d && (rising ps && (every (λ p. fits l (side M C d) p.turn.index p.across p.up) ps
+      wholes l && (wholes d && (rising ps && (every (λ p. fits l (side M C d) (index p.turn) p.across p.up) ps
       && all_tried (pieces_of M kM.pieces l.marks) (pieces_of C kC.pieces l.cuts) (pieces_of M kM.pieces d.marks) (pieces_of C kC.pieces d.cuts) (fits l (side M C d)) ps)))
 
   module _ (l d : Side EM EC) (wl : wholes l ≡ true) (wd : wholes d ≡ true) where
@@ -125,14 +126,14 @@ module _ {EM AM CM EC Ac CC : Type 0} (M : KindModel EM AM CM) (C : KindModel EC
     drawn_cuts = (and_parts (every (whole M kM.pieces) d.marks) (every (whole C kC.pieces) d.cuts) wd).1
 
     -- a place passes the test, and what passes it puts the left side on the drawing
-    place_fits : (p : Placement) → Place M C (side M C l) (side M C d) p → fits l (side M C d) p.turn.index p.across p.up ≡ true
+    place_fits : (p : Placement) → Place M C (side M C l) (side M C d) p → fits l (side M C d) (index p.turn) p.across p.up ≡ true
     place_fits p h = and_from _ _
         (all_pass (λ a. cover M d.marks (moved M p a)) (pieces_of M kM.pieces l.marks) (λ a b. h.marks a (piece_covered M kM.pieces kM.rules l.marks a left_marks b)))
         (all_pass (λ a. cover C d.cuts (moved C p a)) (pieces_of C kC.pieces l.cuts) (λ a b. h.cuts a (piece_covered C kC.pieces kC.rules l.cuts a left_cuts b)))
 
-    fits_place : (p : Placement) → Filled M C (side M C l) → fits l (side M C d) p.turn.index p.across p.up ≡ true → Place M C (side M C l) (side M C d) p
+    fits_place : (p : Placement) → Filled M C (side M C l) → fits l (side M C d) (index p.turn) p.across p.up ≡ true → Place M C (side M C l) (side M C d) p
     fits_place p f h =
-        let x = and_parts (onto M kM (cover M d.marks) (pieces_of M kM.pieces l.marks) p.turn.index p.across p.up) (onto C kC (cover C d.cuts) (pieces_of C kC.pieces l.cuts) p.turn.index p.across p.up) h in
+        let x = and_parts (onto M kM (cover M d.marks) (pieces_of M kM.pieces l.marks) (index p.turn) p.across p.up) (onto C kC (cover C d.cuts) (pieces_of C kC.pieces l.cuts) (index p.turn) p.across p.up) h in
         record {
           filled = f;
           marks = λ a c. every_one (λ b. cover M d.marks (moved M p b)) (pieces_of M kM.pieces l.marks) x.0 a (piece_of M kM.pieces kM.rules l.marks a left_marks c);
@@ -169,7 +170,7 @@ module _ {EM AM CM EC Ac CC : Type 0} (M : KindModel EM AM CM) (C : KindModel EC
   numbers_from l d ps h =
       let test = fits l (side M C d) in
       let tries = all_tried (pieces_of M kM.pieces l.marks) (pieces_of C kC.pieces l.cuts) (pieces_of M kM.pieces d.marks) (pieces_of C kC.pieces d.cuts) test ps in
-      let good = every (λ p. test p.turn.index p.across p.up) ps in
+      let good = every (λ p. test (index p.turn) p.across p.up) ps in
       let a = and_parts (wholes l) (wholes d && (rising ps && (good && tries))) h in
       let b = and_parts (wholes d) (rising ps && (good && tries)) a.1 in
       let c = and_parts (rising ps) (good && tries) b.1 in
@@ -179,7 +180,7 @@ module _ {EM AM CM EC Ac CC : Type 0} (M : KindModel EM AM CM) (C : KindModel EC
         filled = s.filled;
         numbered = record {
           each = s.found;
-          only = λ k p q. fits_place l d a.0 b.0 p s.filled (every_one (λ p. test p.turn.index p.across p.up) ps e.0 p (from_mem ps p (k, q)));
+          only = λ k p q. fits_place l d a.0 b.0 p s.filled (every_one (λ p. test (index p.turn) p.across p.up) ps e.0 p (from_mem ps p (k, q)));
           rise = sorted_rises ps (rising_from ps c.0);
         };
       }

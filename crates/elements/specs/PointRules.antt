@@ -5,7 +5,7 @@ use mathlib.Core.HLevel.{is_prop→PathP}
 use Rattle.std.proofs.lemmas.Int.{ints}
 use Rattle.std.proofs.lemmas.Bool.{and_parts, and_from, and_cases, cases_Bool, both_ways}
 use Rattle.lattice.specs.Field.{ranged}
-use Rattle.lattice.specs.Turns.{across, upward}
+use Rattle.lattice.specs.Turns.{index, across, upward}
 use Rattle.lattice.specs.declared.placement.Placement.{Placement}
 use Rattle.lattice.proofs.Bounds.{shift_within}
 use Rattle.lattice.proofs.Same.{bools}
@@ -91,7 +91,7 @@ cancel a u p h = omega (arith, ints)
 abbrev image : ℕ → ℤ → ℤ → LatticePoint → LatticePoint
 image s u v a = record { x = across s a.x a.y +ℤ u; y = upward s a.x a.y +ℤ v }
 
-moved_to : (p : Placement) (e f : Point) → point_model.place p e ≡ Some f → image p.turn.index p.across p.up (spot e) ≡ spot f
+moved_to : (p : Placement) (e f : Point) → point_model.place p e ≡ Some f → image (index p.turn) p.across p.up (spot e) ≡ spot f
 moved_to p e f h =
     let k = point_some _ _ f h in
     let x = k.0 in
@@ -134,11 +134,11 @@ point_rules = record {
   carried = λ s u v a l h. refl;
   placed = λ p e f h b. (
     λ c. (spot e, own e, moved_to p e f h ∙ sym (only f b c)),
-    λ w. subst (Covers point_model f) (sym (moved_to p e f h) ∙ ap (image p.turn.index p.across p.up) (sym (only e w.0 w.1)) ∙ w.2) (own f),
+    λ w. subst (Covers point_model f) (sym (moved_to p e f h) ∙ ap (image (index p.turn) p.across p.up) (sym (only e w.0 w.1)) ∙ w.2) (own f),
   );
   refused = λ p e. (
-    λ h. (spot e, own e, point_refused (across p.turn.index e.x e.y +ℤ p.across) (upward p.turn.index e.x e.y +ℤ p.up) h),
-    λ w. point_none (across p.turn.index e.x e.y +ℤ p.across) (upward p.turn.index e.x e.y +ℤ p.up) (ap (λ (a : LatticePoint). point_model.field (image p.turn.index p.across p.up a)) (sym (only e w.0 w.1)) ∙ w.2),
+    λ h. (spot e, own e, point_refused (across (index p.turn) e.x e.y +ℤ p.across) (upward (index p.turn) e.x e.y +ℤ p.up) h),
+    λ w. point_none (across (index p.turn) e.x e.y +ℤ p.across) (upward (index p.turn) e.x e.y +ℤ p.up) (ap (λ (a : LatticePoint). point_model.field (image (index p.turn) p.across p.up a)) (sym (only e w.0 w.1)) ∙ w.2),
   );
   one = λ s u v p q a b l h d e.
       let f = d ∙ sym e in

@@ -5,7 +5,7 @@ use Rattle.std.specs.Ordering.{ordering_then}
 use Rattle.lattice.specs.Compare.{ordering}
 use Rattle.lattice.specs.Field.{ranged}
 use Rattle.lattice.specs.Refusals.{number}
-use Rattle.lattice.specs.Turns.{across, upward}
+use Rattle.lattice.specs.Turns.{index, across, upward}
 use Rattle.lattice.specs.Valid.{tested}
 use Rattle.lattice.specs.declared.refusal.Refusal.{Refusal}
 use Rattle.kinds.specs.Model.{KindModel}
@@ -31,7 +31,7 @@ point_model = record {
   at = λ a. pos 0;
   field = λ a. ranged a.x && ranged a.y;
   image = λ s u v a. record { x = across s a.x a.y +ℤ u; y = upward s a.x a.y +ℤ v };
-  place = λ p e. point (across p.turn.index e.x e.y +ℤ p.across) (upward p.turn.index e.x e.y +ℤ p.up);
+  place = λ p e. point (across (index p.turn) e.x e.y +ℤ p.across) (upward (index p.turn) e.x e.y +ℤ p.up);
 }
 
 -- what two numbers give: their point, or the refusal 6 exactly if one of them lies outside the field

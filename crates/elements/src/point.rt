@@ -5,7 +5,7 @@ ghost use Rattle.lattice.specs.Field.{ranged};
 pub mod kind;
 pub mod make;
 
-#[derive(Clone, Copy)]
+#[derive(Clone, Copy, PartialEq, Eq, Debug)]
 pub struct Point {
     x: i32,
     y: i32,
@@ -14,7 +14,7 @@ pub struct Point {
 }
 
 // A point of the lattice, in the field or not: an atom of points.
-#[derive(Clone, Copy)]
+#[derive(Clone, Copy, PartialEq, Eq, Debug)]
 pub struct LatticePoint {
     pub x: i32,
     pub y: i32,

@@ -18,6 +18,7 @@ use Rattle.grammar.specs.Sets.{Set, Sets}
 use Rattle.grammar.proofs.Numbers.{none_some, Mem, Rises, split, mem_cons}
 use Rattle.grammar.proofs.Placements.{turn_below, shift_low, shift_high, before_trans, compared}
 use Rattle.grammar.proofs.Tests.{or_not, not_or}
+use Rattle.lattice.specs.Turns.{index}
 
 -- each is earlier than all that stand behind it
 abbrev pub Sorted : List Placement → Type 0
@@ -142,7 +143,7 @@ with_numbers s u v = turned s (ltb s 8) refl (pos u +ℤ negsuc 3999) (pos v +�
 everywhere : List Placement
 everywhere = gathered 8 (λ s. gathered (suc (suc (3999 + 4000))) (λ u. gathered (suc (suc (3999 + 4000))) (λ v. with_numbers s u v)))
 
-mem_turned : (p : Placement) (s : ℕ) (b : Bool) (e : ltb s 8 ≡ b) (u v : ℤ) (c d : Bool) (f : shifting u ≡ c) (g : shifting v ≡ d) → s ≡ p.turn.index → u ≡ p.across → v ≡ p.up → Mem (turned s b e u v c d f g) p
+mem_turned : (p : Placement) (s : ℕ) (b : Bool) (e : ltb s 8 ≡ b) (u v : ℤ) (c d : Bool) (f : shifting u ≡ c) (g : shifting v ≡ d) → s ≡ (index p.turn) → u ≡ p.across → v ≡ p.up → Mem (turned s b e u v c d f g) p
 unfolding turned
 mem_turned p s true e u v true true f g x y z = (1, ap Some (same_placement _ p x y z))
 mem_turned p s true e u v true false f g x y z = absurd (both_ways (shifting v) g (ap shifting z ∙ p.upwards))
@@ -155,7 +156,7 @@ unfolding everywhere with_numbers
 all_there p =
     let u = counted_up 3999 4000 p.across (shift_low p.across p.sideways) (shift_high p.across p.sideways) in
     let v = counted_up 3999 4000 p.up (shift_low p.up p.upwards) (shift_high p.up p.upwards) in
-    mem_gathered _ _ p.turn.index p (turn_below p) (mem_gathered _ _ u.0 p u.1 (mem_gathered _ _ v.0 p v.1 (mem_turned p p.turn.index _ refl _ _ _ _ refl refl refl u.2 v.2)))
+    mem_gathered _ _ (index p.turn) p (turn_below p) (mem_gathered _ _ u.0 p u.1 (mem_gathered _ _ v.0 p v.1 (mem_turned p (index p.turn) _ refl _ _ _ _ refl refl refl u.2 v.2)))
 
 -- a test of every number below another
 all_below : ℕ → (ℕ → Bool) → Bool

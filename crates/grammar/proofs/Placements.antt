@@ -8,10 +8,11 @@ use Rattle.lattice.specs.Field.{shifting}
 use Rattle.lattice.specs.Order.{Triple, triple, Before, Earlier}
 use Rattle.lattice.proofs.Same.{same_placement}
 use Rattle.kinds.proofs.Numbers.{lt_from, le_from}
+use Rattle.lattice.specs.Turns.{index}
 
 -- what a placement's type says of its numbers
-pub turn_below : (p : Placement) → p.turn.index < 8
-turn_below p = ltb-true p.turn.index 8 p.turn.proper
+pub turn_below : (p : Placement) → (index p.turn) < 8
+turn_below p = ltb-true (index p.turn) 8 p.turn.proper
 
 pub shift_low : (z : ℤ) → shifting z ≡ true → negsuc 3999 ≤ℤ z
 shift_low z h = le_from _ _ (and_parts (le_z (negsuc 3999) z) (le_z z (pos 4000)) h).0
@@ -55,9 +56,9 @@ pos_one : {m n : ℕ} → pos m ≡ pos n → m ≡ n
 pos_one h = cc
 
 pub compared : (p q : Placement) → Earlier p q ⊎ ((p ≡ q) ⊎ Earlier q p)
-compared p q = go (trichotomy (pos p.turn.index) (pos q.turn.index)) (trichotomy p.across q.across) (trichotomy p.up q.up)
+compared p q = go (trichotomy (pos (index p.turn)) (pos (index q.turn))) (trichotomy p.across q.across) (trichotomy p.up q.up)
   where
-    go : ((pos p.turn.index <ℤ pos q.turn.index) ⊎ ((pos p.turn.index ≡ pos q.turn.index) ⊎ (pos q.turn.index <ℤ pos p.turn.index))) → ((p.across <ℤ q.across) ⊎ ((p.across ≡ q.across) ⊎ (q.across <ℤ p.across))) → ((p.up <ℤ q.up) ⊎ ((p.up ≡ q.up) ⊎ (q.up <ℤ p.up))) → Earlier p q ⊎ ((p ≡ q) ⊎ Earlier q p)
+    go : ((pos (index p.turn) <ℤ pos (index q.turn)) ⊎ ((pos (index p.turn) ≡ pos (index q.turn)) ⊎ (pos (index q.turn) <ℤ pos (index p.turn)))) → ((p.across <ℤ q.across) ⊎ ((p.across ≡ q.across) ⊎ (q.across <ℤ p.across))) → ((p.up <ℤ q.up) ⊎ ((p.up ≡ q.up) ⊎ (q.up <ℤ p.up))) → Earlier p q ⊎ ((p ≡ q) ⊎ Earlier q p)
     go (inl h) b c = inl (inl h)
     go (inr (inr h)) b c = inr (inr (inl h))
     go (inr (inl h)) (inl k) c = inl (inr (h, inl k))

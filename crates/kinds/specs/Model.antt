@@ -3,6 +3,7 @@ use Rattle.std.specs.Prelude.{ℕ, Bool, ◌&&◌, ℤ, Option, int_le, int_lt}
 use Rattle.std.specs.declared.cmp.Ordering.{Ordering}
 use Rattle.std.specs.Ordering.{is_eq}
 use Rattle.lattice.specs.declared.placement.Placement.{Placement}
+use Rattle.lattice.specs.Turns.{index}
 
 -- E are the elements, C the carriers, and the atoms are among the values of A
 pub record KindModel (E A C : Type 0) : Type 0 where
@@ -29,4 +30,4 @@ module _ {E A C : Type 0} (m : KindModel E A C) where
 
   -- where a placement takes an atom
   abbrev pub moved : Placement → A → A
-  moved p a = m.image p.turn.index p.across p.up a
+  moved p a = m.image (index p.turn) p.across p.up a

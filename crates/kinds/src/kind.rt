@@ -1,6 +1,7 @@
 // A kind of element. The ghost model says what elements, atoms and carriers mean, and the law which rules hold of it;
 // all of the library above uses a kind by these alone.
 ghost use Rattle.std.specs.Prelude.{◌≡◌};
+ghost use Rattle.lattice.specs.Turns.{index as Index};
 ghost use Rattle.kinds.specs.Model.{KindModel};
 ghost use Rattle.kinds.specs.Rules.{Rules};
 ghost use Rattle.kinds.specs.Answers.{Joins, Parts, AtomAt, Shifts};
@@ -50,7 +51,7 @@ pub trait Kind: Copy {
 
     // The shifts across and up that, after the turn, take the one atom of the field to the other, if there are any.
     fn shifts(turn: Turn, from: Self::Atom, to: Self::Atom) -> Option<(i32, i32)>
-        ensures { Shifts model turn.index from to result };
+        ensures { Shifts model (Index turn) from to result };
 
     ghost rules: { Rules model };
 }

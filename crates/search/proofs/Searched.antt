@@ -25,6 +25,8 @@ use Rattle.grammar.proofs.Numbers.{none_some}
 use Rattle.search.specs.Scenes.{sought, drawn, Fits}
 use Rattle.search.specs.Steps.{Lands, Turned, Improves, FirstAtom}
 use Rattle.search.proofs.Best.{least_same, improves_same, improves_none, improves_nothing, improves_both}
+use Rattle.lattice.specs.Turns.{index}
+use Rattle.lattice.proofs.Turning.{below_eight}
 
 module _ {E A C : Type 0} (m : KindModel E A C) where
   cover_suc : (xs : List E) (i : ℕ) (x d : E) (a : A) → i < length xs → x ≡ get_or xs i d → cover m (take (suc i) xs) a ≡ (cover m (take i xs) a || covers m x a)
@@ -55,16 +57,16 @@ module _ {E A C : Type 0} (m : KindModel E A C) (r : Rules m) where
 module _ {E A C : Type 0} (m : KindModel E A C) (r : Rules m) (F : Placement → Type 0) (from : A) (turn : Turn) where
   -- the placements that take the atom to e's at a position, to e's below a position, to e's
   abbrev pub At : E → ℤ → Placement → Type 0
-  At e i = Turned m F from (λ a. (covers m e a ≡ true) × (m.at a ≡ i)) turn.index
+  At e i = Turned m F from (λ a. (covers m e a ≡ true) × (m.at a ≡ i)) (index turn)
 
   abbrev pub Under : E → ℤ → Placement → Type 0
-  Under e i = Turned m F from (λ a. (covers m e a ≡ true) × (m.at a <ℤ i)) turn.index
+  Under e i = Turned m F from (λ a. (covers m e a ≡ true) × (m.at a <ℤ i)) (index turn)
 
   abbrev pub On : E → Placement → Type 0
-  On e = Turned m F from (λ a. covers m e a ≡ true) turn.index
+  On e = Turned m F from (λ a. covers m e a ≡ true) (index turn)
 
   abbrev pub Upto : ℕ → List E → Placement → Type 0
-  Upto n xs = Turned m F from (λ a. cover m (take n xs) a ≡ true) turn.index
+  Upto n xs = Turned m F from (λ a. cover m (take n xs) a ≡ true) (index turn)
 
   pub no_atom : (e : E) (i : ℤ) → (m.start e ≤ℤ i → i <ℤ m.end e → ⊥) → (p : Placement) → At e i p → ⊥
   no_atom e i n p h =
@@ -81,19 +83,19 @@ module _ {E A C : Type 0} (m : KindModel E A C) (r : Rules m) (F : Placement →
         let l = h.1.lands in
         one_atom m r e e (moved m p from) to (has_from m r.ordered e _ l.0) (has_from m r.ordered e to c) refl (l.1 ∙ sym w)
 
-    shifted : (p : Placement) → At e i p → m.image turn.index p.across p.up from ≡ to
+    shifted : (p : Placement) → At e i p → m.image (index turn) p.across p.up from ≡ to
     shifted p h = ap (λ (s : ℕ). m.image s p.across p.up from) (sym h.0) ∙ the_atom p h
 
     module _ (field : m.field from ≡ true) where
-      pub no_shifts : Shifts m turn.index from to None → (p : Placement) → At e i p → ⊥
+      pub no_shifts : Shifts m (index turn) from to None → (p : Placement) → At e i p → ⊥
       no_shifts n p h = n field (r.inside e to c) p.across p.up (shifted p h)
 
-      pub in_range : (u v : ℤ) → m.image turn.index u v from ≡ to → (shifting u && shifting v) ≡ true
+      pub in_range : (u v : ℤ) → m.image (index turn) u v from ≡ to → (shifting u && shifting v) ≡ true
       in_range u v q =
-          let b = r.near turn.index u v from to (ltb-true turn.index 8 turn.proper) field (r.inside e to c) q in
+          let b = r.near (index turn) u v from to (below_eight turn) field (r.inside e to c) q in
           and_from (shifting u) (shifting v) (shifting_from u b.0 b.1) (shifting_from v b.2 b.3)
 
-      module _ (q : Placement) (s : q.turn.index ≡ turn.index) (moves : m.image turn.index q.across q.up from ≡ to) where
+      module _ (q : Placement) (s : (index q.turn) ≡ (index turn)) (moves : m.image (index turn) q.across q.up from ≡ to) where
         arrives : moved m q from ≡ to
         arrives = ap (λ (n : ℕ). m.image n q.across q.up from) s ∙ moves
 
@@ -102,14 +104,14 @@ module _ {E A C : Type 0} (m : KindModel E A C) (r : Rules m) (F : Placement →
 
         pub only_at : (p : Placement) → At e i p → (q ≡ p) × F q
         only_at p h =
-            let o = r.one turn.index q.across q.up p.across p.up from to (ltb-true turn.index 8 turn.proper) (r.atoms from field) moves (shifted p h) in
+            let o = r.one (index turn) q.across q.up p.across p.up from to (below_eight turn) (r.atoms from field) moves (shifted p h) in
             let v = same_placement q p (s ∙ sym h.0) o.0 o.1 in
             (v, subst F (sym v) h.1.good)
 
-  turned_by : (P Q : A → Type 0) → ((a : A) → P a → Q a) → (p : Placement) → Turned m F from P turn.index p → Turned m F from Q turn.index p
+  turned_by : (P Q : A → Type 0) → ((a : A) → P a → Q a) → (p : Placement) → Turned m F from P (index turn) p → Turned m F from Q (index turn) p
   turned_by P Q f p h = (h.0, record { good = h.1.good; lands = f (moved m p from) h.1.lands })
 
-  turned_or : (P Q R : A → Type 0) → ((a : A) → R a → P a ⊎ Q a) → (p : Placement) → Turned m F from R turn.index p → Turned m F from P turn.index p ⊎ Turned m F from Q turn.index p
+  turned_or : (P Q R : A → Type 0) → ((a : A) → R a → P a ⊎ Q a) → (p : Placement) → Turned m F from R (index turn) p → Turned m F from P (index turn) p ⊎ Turned m F from Q (index turn) p
   turned_or P Q R f p h = ⊎_elim (λ x. inl (h.0, record { good = h.1.good; lands = x })) (λ x. inr (h.0, record { good = h.1.good; lands = x })) (f (moved m p from) h.1.lands)
 
   pub under_none : (t : Triple) (b : Option Placement) (e : E) (i : ℤ) → i ≡ m.start e → Improves (Under e i) t b b
@@ -139,19 +141,19 @@ module _ {E A C : Type 0} (m : KindModel E A C) (r : Rules m) (F : Placement →
       n o (λ w. least_same (Upto i xs) (λ p. Upto i xs p ⊎ (None ≡ Some p)) t n (λ p u. inl u) (λ p u. ⊎_elim (λ y. y) (λ y. absurd (none_some y)) u) h) k)
 
 -- the first place of the first turn that has one
-module _ (P : Placement → Type 0) (t : Triple) (turn : ℕ) (low : (p : Placement) → P p → Before t (triple p) → turn ≤ p.turn.index) where
-  pub turn_found : (p : Placement) → LeastOf (λ q. (q.turn.index ≡ turn) × P q) t (Some p) → LeastOf P t (Some p)
-  turn_found p h = (h.0.1, h.1, λ q x w. go q x w (low q x w) (cases_order turn q.turn.index))
+module _ (P : Placement → Type 0) (t : Triple) (turn : ℕ) (low : (p : Placement) → P p → Before t (triple p) → turn ≤ (index p.turn)) where
+  pub turn_found : (p : Placement) → LeastOf (λ q. ((index q.turn) ≡ turn) × P q) t (Some p) → LeastOf P t (Some p)
+  turn_found p h = (h.0.1, h.1, λ q x w. go q x w (low q x w) (cases_order turn (index q.turn)))
     where
-      go : (q : Placement) → P q → Before t (triple q) → turn ≤ q.turn.index → (turn ≡ q.turn.index) ⊎ ((turn < q.turn.index) ⊎ (q.turn.index < turn)) → (p ≡ q) ⊎ Earlier p q
+      go : (q : Placement) → P q → Before t (triple q) → turn ≤ (index q.turn) → (turn ≡ (index q.turn)) ⊎ ((turn < (index q.turn)) ⊎ ((index q.turn) < turn)) → (p ≡ q) ⊎ Earlier p q
       go q x w l (inr (inl a)) = let e = h.0.0 in inr (inl (omega (arith, ints, e)))
       go q x w l (inl a) = h.2 q (sym a, x) w
       go q x w l (inr (inr a)) = absurd (omega arith)
 
-  pub turn_passed : LeastOf (λ q. (q.turn.index ≡ turn) × P q) t None → (p : Placement) → P p → Before t (triple p) → turn + 1 ≤ p.turn.index
-  turn_passed h p x w = go (low p x w) (cases_order turn p.turn.index)
+  pub turn_passed : LeastOf (λ q. ((index q.turn) ≡ turn) × P q) t None → (p : Placement) → P p → Before t (triple p) → turn + 1 ≤ (index p.turn)
+  turn_passed h p x w = go (low p x w) (cases_order turn (index p.turn))
     where
-      go : turn ≤ p.turn.index → (turn ≡ p.turn.index) ⊎ ((turn < p.turn.index) ⊎ (p.turn.index < turn)) → turn + 1 ≤ p.turn.index
+      go : turn ≤ (index p.turn) → (turn ≡ (index p.turn)) ⊎ ((turn < (index p.turn)) ⊎ ((index p.turn) < turn)) → turn + 1 ≤ (index p.turn)
       go l (inr (inl a)) = omega arith
       go l (inl a) = absurd (h p (sym a, x) w)
       go l (inr (inr a)) = absurd (omega arith)

@@ -6,6 +6,7 @@ use Rattle.lattice.specs.Order.{Triple, read, triple, Before, Earlier}
 use Rattle.kinds.specs.Model.{KindModel, moved}
 use Rattle.sheets.specs.Cover.{cover}
 use Rattle.grammar.specs.Places.{LeastOf}
+use Rattle.lattice.specs.Turns.{index}
 
 abbrev pub bound : ℤ × ℤ × ℤ → Triple
 bound t = read t.0 t.1 t.2
@@ -36,7 +37,7 @@ pub record Lands {E A C : Type 0} (m : KindModel E A C) (F : Placement → Type 
 
 -- the same, of one turn
 abbrev pub Turned : {E A C : Type 0} (m : KindModel E A C) (F : Placement → Type 0) (from : A) (P : A → Type 0) → ℕ → Placement → Type 0
-Turned m F from P turn p = (p.turn.index ≡ turn) × Lands m F from P p
+Turned m F from P turn p = ((index p.turn) ≡ turn) × Lands m F from P p
 
 -- r is the first after t of those that P holds of and of the best so far
 abbrev pub Improves : (Placement → Type 0) → Triple → Option Placement → Option Placement → Type 0

@@ -2,6 +2,7 @@
 // such atom there is at most one placement to try.
 ghost use Rattle.std.specs.Prelude.{◌≡◌, true, false, ◌&&◌, T, pos, ◌<ℤ◌, Decides, MatchOption};
 ghost use Rattle.lattice.specs.Field.{shifting};
+ghost use Rattle.lattice.specs.Turns.{index as Index};
 ghost use Rattle.lattice.specs.Order.{Before, triple as Triple};
 ghost use Rattle.kinds.specs.Model.{covers};
 ghost use Rattle.sheets.specs.Cover.{cover};
@@ -89,7 +90,7 @@ impl<'a, M: Kind, C: Kind> Scene<'a, M, C> {
         after: (i32, i32, i32),
         best: Option<Placement>,
     ) -> Option<Placement>
-        ensures least { Canonical M.Kind.model C.Kind.model self.now → K.Kind.model.field from ≡ true → Improves (Turned K.Kind.model (Fits M.Kind.model C.Kind.model self.now) from (λ a. (covers K.Kind.model e.now a ≡ true) × (K.Kind.model.at a ≡ at)) turn.index) (Bound after) best result }
+        ensures least { Canonical M.Kind.model C.Kind.model self.now → K.Kind.model.field from ≡ true → Improves (Turned K.Kind.model (Fits M.Kind.model C.Kind.model self.now) from (λ a. (covers K.Kind.model e.now a ≡ true) × (K.Kind.model.at a ≡ at)) (Index turn)) (Bound after) best result }
         ensures later { After (Bound after) best → After (Bound after) result }
     {
         let Some(to) = e.atom(at) else {
@@ -113,7 +114,7 @@ impl<'a, M: Kind, C: Kind> Scene<'a, M, C> {
         after: (i32, i32, i32),
         best: Option<Placement>,
     ) -> Option<Placement>
-        ensures least { Canonical M.Kind.model C.Kind.model self.now → K.Kind.model.field from ≡ true → Improves (Turned K.Kind.model (Fits M.Kind.model C.Kind.model self.now) from (λ a. covers K.Kind.model e.now a ≡ true) turn.index) (Bound after) best result }
+        ensures least { Canonical M.Kind.model C.Kind.model self.now → K.Kind.model.field from ≡ true → Improves (Turned K.Kind.model (Fits M.Kind.model C.Kind.model self.now) from (λ a. covers K.Kind.model e.now a ≡ true) (Index turn)) (Bound after) best result }
         ensures later { After (Bound after) best → After (Bound after) result }
     {
         let mut found = best;
@@ -131,7 +132,7 @@ impl<'a, M: Kind, C: Kind> Scene<'a, M, C> {
         xs: &[K],
         after: (i32, i32, i32),
     ) -> Option<Placement>
-        ensures least { Canonical M.Kind.model C.Kind.model self.now → K.Kind.model.field from ≡ true → LeastOf (Turned K.Kind.model (Fits M.Kind.model C.Kind.model self.now) from (λ a. cover K.Kind.model xs.now a ≡ true) turn.index) (Bound after) result }
+        ensures least { Canonical M.Kind.model C.Kind.model self.now → K.Kind.model.field from ≡ true → LeastOf (Turned K.Kind.model (Fits M.Kind.model C.Kind.model self.now) from (λ a. cover K.Kind.model xs.now a ≡ true) (Index turn)) (Bound after) result }
         ensures later { After (Bound after) result }
     {
         let mut best = None;

@@ -3,7 +3,7 @@ use Rattle.std.specs.Prelude.{◌≡◌, ℕ, ◌<◌, Bool, true, false, cond, 
 use Rattle.std.proofs.Common.{sym, ap, ◌∙◌, arith}
 use Rattle.std.proofs.lemmas.Int.{ints}
 use Rattle.std.proofs.lemmas.Bool.{and_parts, both_ways}
-use Rattle.lattice.specs.Turns.{across, upward}
+use Rattle.lattice.specs.Turns.{index, across, upward}
 use Rattle.lattice.specs.declared.placement.Placement.{Placement}
 use Rattle.lattice.proofs.Bounds.{shift_within}
 use Rattle.lattice.proofs.Turning.{ranged_turned, below_eight}
@@ -57,11 +57,11 @@ near_pair s u v a l h k =
     (x.0, x.1, y.0, y.1)
 
 -- a placement to nowhere takes an edge out of the field, and none else does
-nowhere : (p : Placement) (e : Segment) (a : Edge) → Covers segment_model e a → edge_field (edge_image p.turn.index p.across p.up a) ≡ false → segment_model.place p e ≡ None
+nowhere : (p : Placement) (e : Segment) (a : Edge) → Covers segment_model e a → edge_field (edge_image (index p.turn) p.across p.up a) ≡ false → segment_model.place p e ≡ None
 nowhere p e a c h = go (segment_model.place p e) refl where
   go : (o : Option Segment) → segment_model.place p e ≡ o → o ≡ None
   go None q = refl
-  go (Some r) q = absurd (both_ways _ h (inside r _ ((image_placed e p.turn.index p.across p.up (below_eight p.turn) r q (edge_image p.turn.index p.across p.up a)).1 (a, c, refl))))
+  go (Some r) q = absurd (both_ways _ h (inside r _ ((image_placed e (index p.turn) p.across p.up (below_eight p.turn) r q (edge_image (index p.turn) p.across p.up a)).1 (a, c, refl))))
 
 pub segment_rules : Rules segment_model
 segment_rules = record {
@@ -76,8 +76,8 @@ segment_rules = record {
   joined = joined;
   parted = parted;
   carried = λ s u v a l h. ap edge_proper (image_is s u v a l) ∙ oriented_proper (across s a.x a.y +ℤ u) (upward s a.x a.y +ℤ v) (across s a.dx a.dy) (upward s a.dx a.dy) (gcd_turned a.dx a.dy s l ∙ gcd_of a.dx a.dy h);
-  placed = λ p e f h. image_placed e p.turn.index p.across p.up (below_eight p.turn) f h;
-  refused = λ p e. (image_refused e p.turn.index p.across p.up (below_eight p.turn), λ w. nowhere p e w.0 w.1 w.2);
+  placed = λ p e f h. image_placed e (index p.turn) p.across p.up (below_eight p.turn) f h;
+  refused = λ p e. (image_refused e (index p.turn) p.across p.up (below_eight p.turn), λ w. nowhere p e w.0 w.1 w.2);
   one = λ s u v p q a b l h d e. one_pair s u v p q a l (d ∙ sym e);
   near = λ s u v a b l h k e. near_pair s u v a l h (ap edge_field e ∙ k);
 }

@@ -2,7 +2,7 @@
 use Rattle.std.specs.Prelude.{◌≡◌, ℕ, Bool, true, false, cond, ◌&&◌, ◌⊎◌, ℤ, pos, ◌+ℤ◌, ◌-ℤ◌, ◌*ℤ◌, neg_ℤ, Some, Ok, Err, MatchBool, Option, Result, ◌≢◌, int_lt, unsigned_abs}
 use Rattle.lattice.specs.Field.{ranged}
 use Rattle.lattice.specs.Refusals.{number}
-use Rattle.lattice.specs.Turns.{across, upward}
+use Rattle.lattice.specs.Turns.{index, across, upward}
 use Rattle.lattice.specs.Valid.{tested}
 use Rattle.lattice.specs.declared.refusal.Refusal.{Refusal}
 use Rattle.numbers.specs.Gcd.{gcd}
@@ -50,7 +50,7 @@ segment_model = record {
   at = edge_position;
   field = edge_field;
   image = edge_image;
-  place = λ p e. segment_image p.turn.index p.across p.up e;
+  place = λ p e. segment_image (index p.turn) p.across p.up e;
 }
 
 -- all four coordinates lie in the field

@@ -4,7 +4,6 @@ ghost use Rattle.elements.specs.InkRules.{ink_rules};
 
 use crate::ink::{Ink, Inked};
 use kinds::kind::Kind;
-use lattice::order::compare;
 use lattice::placement::Placement;
 use lattice::turn::Turn;
 use std::cmp::Ordering;
@@ -26,7 +25,7 @@ impl<K: Kind> Kind for Ink<K> {
     }
 
     fn compare(&self, other: &Ink<K>) -> Ordering {
-        let inks = compare(i32::from(self.ink), i32::from(other.ink));
+        let inks = self.ink.cmp(&other.ink);
         inks.then(self.under.compare(&other.under))
     }
 

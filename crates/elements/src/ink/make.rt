@@ -10,14 +10,8 @@ impl<K: Copy> Ink<K> {
     pub fn new(ink: i32, under: K) -> Result<Ink<K>, Refusal>
         ensures { InkMade ink under result }
     {
-        if 0 <= ink && ink <= 255 {
-            Ok(Ink {
-                ink: ink as u8,
-                under,
-            })
-        } else {
-            Err(Refusal::OutOfRange)
-        }
+        let ink = u8::try_from(ink).map_err(|_| Refusal::OutOfRange)?;
+        Ok(Ink { ink, under })
     }
 
     pub fn ink(&self) -> u8

@@ -5,7 +5,6 @@ ghost use Rattle.elements.specs.PointRules.{point_rules};
 use crate::point::{LatticePoint, Point};
 use kinds::kind::Kind;
 use lattice::field::shift_between;
-use lattice::order::compare;
 use lattice::placement::Placement;
 use lattice::turn::Turn;
 use std::cmp::Ordering;
@@ -24,7 +23,7 @@ impl Kind for Point {
     }
 
     fn compare(&self, other: &Point) -> Ordering {
-        compare(self.x, other.x).then(compare(self.y, other.y))
+        self.carrier().cmp(&other.carrier())
     }
 
     fn start(&self) -> i32 {
@@ -36,21 +35,11 @@ impl Kind for Point {
     }
 
     fn join(self, other: Point) -> Option<Point> {
-        if self.x != other.x {
-            return None;
-        }
-        if self.y != other.y {
-            return None;
-        }
-        Some(self)
+        (self == other).then_some(self)
     }
 
     fn part(self, from: i32, to: i32) -> Option<Point> {
-        if from == 0 && to == 1 {
-            Some(self)
-        } else {
-            None
-        }
+        (from == 0 && to == 1).then_some(self)
     }
 
     fn atom(&self, at: i32) -> Option<LatticePoint> {

@@ -11,26 +11,21 @@ impl Point {
     pub fn new(x: i32, y: i32) -> Result<Point, Refusal>
         ensures { PointMade x y result }
     {
-        match Point::at(i64::from(x), i64::from(y)) {
-            Some(point) => Ok(point),
-            None => Err(Refusal::OutOfRange),
-        }
+        Point::at(i64::from(x), i64::from(y)).ok_or(Refusal::OutOfRange)
     }
 
     // The point with these coordinates, if they lie in the field.
     pub fn at(x: i64, y: i64) -> Option<Point>
         ensures { result ≡ TestedPoint x y }
     {
-        if !in_field(x) {
-            return None;
+        if in_field(x) && in_field(y) {
+            Some(Point {
+                x: x as i32,
+                y: y as i32,
+            })
+        } else {
+            None
         }
-        if !in_field(y) {
-            return None;
-        }
-        Some(Point {
-            x: x as i32,
-            y: y as i32,
-        })
     }
 
     pub fn x(&self) -> i32

@@ -1,6 +1,7 @@
 // Where turns take unit edges, and what lies in the field.
 ghost use Rattle.std.specs.Prelude.{◌≡◌, ◌≤◌, true, pos, unsigned_abs};
 ghost use Rattle.lattice.specs.Field.{ranged};
+ghost use Rattle.lattice.specs.Turns.{index as Index};
 ghost use Rattle.segments.specs.Directions.{direction as Direction};
 ghost use Rattle.segments.specs.Edges.{ends_lie as EndsLie, edge_field as EdgeField, edge_image as EdgeImage, oriented as Oriented};
 ghost use Rattle.segments.specs.Segments.{segment as TestedSegment};
@@ -78,7 +79,7 @@ impl Edge {
     // The edge, turned.
     pub(crate) fn turned(self, turn: Turn) -> Edge
         requires { EndsLie self ≡ true }
-        ensures value { result ≡ EdgeImage turn.index (pos 0) (pos 0) self }
+        ensures value { result ≡ EdgeImage (Index turn) (pos 0) (pos 0) self }
         ensures left { ranged result.x ≡ true }
         ensures low { ranged result.y ≡ true }
     {

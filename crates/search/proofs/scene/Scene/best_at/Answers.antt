@@ -9,6 +9,7 @@ use Rattle.search.specs.Steps.{bound}
 use Rattle.search.proofs.Best.{improves_nothing, improves_tried}
 use Rattle.search.proofs.Searched.{At, no_atom, no_shifts, in_range, good_at, only_at}
 use Rattle.search.proofs.scene.Scene.best_at.Goals as goal
+use Rattle.lattice.specs.Turns.{index}
 
 pub returns-in_default : goal.returns-in_default
 returns-in_default g c =
@@ -32,8 +33,8 @@ returns-in-Some-shifted g c =
     let h : AtomAt m c.args.e.now c.args.at (Some to) = subst (λ (z : ℤ). AtomAt m c.args.e.now z (Some to)) (to_z-of_z w32 c.args.at c.ranges.at) c.in-Some.ensures in
     let s = c.in-Some-shifts.ensures in
     let w = c.in-Some-shifted.ensures in
-    let k : m.image c.args.turn.index q.across q.up c.args.from ≡ to = (λ i. m.image c.args.turn.index (w.1 i) (w.2 i) c.args.from) ∙ s.2 in
-    let t : q.turn.index ≡ c.args.turn.index = ap (λ (x : Turn). x.index) w.0 in
+    let k : m.image (index c.args.turn) q.across q.up c.args.from ≡ to = (λ i. m.image (index c.args.turn) (w.1 i) (w.2 i) c.args.from) ∙ s.2 in
+    let t : (index q.turn) ≡ (index c.args.turn) = ap index w.0 in
     record {
       least = λ can ins. improves_tried (At m r F c.args.from c.args.turn c.args.e.now c.args.at) (bound c.args.after) q (F q)
           (good_at m r F c.args.from c.args.turn c.args.e.now c.args.at to h.0 h.1 ins q t k)

@@ -6,6 +6,7 @@ use Rattle.sheets.specs.Cover.{cover}
 use Rattle.search.specs.Scenes.{Canonical, Fits}
 use Rattle.search.specs.Steps.{bound, Lands}
 use Rattle.search.proofs.scene.Scene.first_of_all.Given as goal
+use Rattle.lattice.specs.Turns.{index}
 
 abbrev pub invariant-loop-index : goal.invariant-loop-index
-invariant-loop-index g l = Canonical g.M.Kind.model g.C.Kind.model l.self → g.K.Kind.model.field l.from ≡ true → (p : Placement) → Lands g.K.Kind.model (Fits g.M.Kind.model g.C.Kind.model l.self) l.from (λ a. cover g.K.Kind.model l.xs a ≡ true) p → Before (bound l.after) (triple p) → l.index ≤ p.turn.index
+invariant-loop-index g l = Canonical g.M.Kind.model g.C.Kind.model l.self → g.K.Kind.model.field l.from ≡ true → (p : Placement) → Lands g.K.Kind.model (Fits g.M.Kind.model g.C.Kind.model l.self) l.from (λ a. cover g.K.Kind.model l.xs a ≡ true) p → Before (bound l.after) (triple p) → l.index ≤ (index p.turn)

@@ -6,6 +6,7 @@ use Rattle.segments.specs.Edges.{oriented}
 use Rattle.segments.specs.declared.segment.Edge.{Edge}
 use Rattle.segments.proofs.Shifting.{turned_is, sizes}
 use Rattle.segments.proofs.segment.Edge.turned.Goals as goal
+use Rattle.lattice.specs.Turns.{index}
 
 pub oriented-requires : goal.oriented-requires
 oriented-requires c =
@@ -21,7 +22,7 @@ oriented-requires c =
     let y = simp to_z-of_z at c.turned-x.ensures.upward in
     let p = simp to_z-of_z at c.turned-dx.ensures.across in
     let q = simp to_z-of_z at c.turned-dx.ensures.upward in
-    let s = sizes c.args.turn.index c.args.self (below_eight c.args.turn) c.requires in
+    let s = sizes (index c.args.turn) c.args.self (below_eight c.args.turn) c.requires in
     record {
       x = subst (λ (z : ℤ). nat_abs z ≤ 4000) (sym (to_z-of_z w64 c.turned-x.result.0 gx ∙ x)) s.x;
       y = subst (λ (z : ℤ). nat_abs z ≤ 4000) (sym (to_z-of_z w64 c.turned-x.result.1 gy ∙ y)) s.y;
@@ -43,7 +44,7 @@ returns c =
     let y = simp to_z-of_z at c.turned-x.ensures.upward in
     let p = simp to_z-of_z at c.turned-dx.ensures.across in
     let q = simp to_z-of_z at c.turned-dx.ensures.upward in
-    let s = sizes c.args.turn.index c.args.self (below_eight c.args.turn) c.requires in
+    let s = sizes (index c.args.turn) c.args.self (below_eight c.args.turn) c.requires in
     let o = simp to_z-of_z at c.oriented.ensures in
-    let e = o ∙ (λ i. oriented (x i) (y i) (p i) (q i)) ∙ turned_is c.args.turn.index c.args.self (below_eight c.args.turn) in
+    let e = o ∙ (λ i. oriented (x i) (y i) (p i) (q i)) ∙ turned_is (index c.args.turn) c.args.self (below_eight c.args.turn) in
     record { value = e; left = ap (λ (a : Edge). ranged a.x) e ∙ s.left; low = ap (λ (a : Edge). ranged a.y) e ∙ s.low }

@@ -1,7 +1,7 @@
 use Rattle.std.proofs.Common.{◌≡◌, true, false, ◌&&◌, ℤ, ◌-ℤ◌, sym, ap, ◌∙◌, subst, inl, inr, w32, w64, SFits, rules}
 use Rattle.std.proofs.lemmas.Int.{to_z-of_z}
 use Rattle.lattice.specs.Field.{ranged}
-use Rattle.lattice.specs.Turns.{across, upward}
+use Rattle.lattice.specs.Turns.{index, across, upward}
 use Rattle.lattice.proofs.Turning.{below_eight}
 use Rattle.kinds.specs.Answers.{Shifts}
 use Rattle.elements.specs.Points.{point_model}
@@ -10,7 +10,7 @@ use Rattle.elements.proofs.point.kind.PointKind.shifts.Goals as goal
 
 pub returns-in_err-across : goal.returns-in_err-across
 returns-in_err-across c =
-    let s = c.args.turn.index in
+    let s = (index c.args.turn) in
     let a = c.args.from in
     let b = c.args.to in
     let fx : SFits w32 c.args.from.x = search rules in
@@ -24,7 +24,7 @@ returns-in_err-across c =
 
 pub returns-in_err-up : goal.returns-in_err-up
 returns-in_err-up c =
-    let s = c.args.turn.index in
+    let s = (index c.args.turn) in
     let a = c.args.from in
     let b = c.args.to in
     let fx : SFits w32 c.args.from.x = search rules in
@@ -38,7 +38,7 @@ returns-in_err-up c =
 
 pub returns : goal.returns
 returns c =
-    let s = c.args.turn.index in
+    let s = (index c.args.turn) in
     let a = c.args.from in
     let b = c.args.to in
     let fx : SFits w32 c.args.from.x = search rules in

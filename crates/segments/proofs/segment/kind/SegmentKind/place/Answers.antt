@@ -1,7 +1,7 @@
 use Rattle.std.proofs.Common.{◌≡◌, ◌≤◌, true, false, ℤ, pos, ◌+ℤ◌, ◌-ℤ◌, neg_ℤ, nat_abs, sym, ap, ◌∙◌, subst, arith, w32, w64, SFits, to_z, of_z, rules}
 use Rattle.std.proofs.lemmas.Int.{ints, to_z-of_z}
 use Rattle.std.proofs.lemmas.Bool.{cond-true, cond-false}
-use Rattle.lattice.specs.Turns.{across, upward}
+use Rattle.lattice.specs.Turns.{index, across, upward}
 use Rattle.lattice.specs.declared.turn.Turn.{Turn}
 use Rattle.lattice.proofs.Turning.{below_eight, turned_sizes}
 use Rattle.segments.specs.Directions.{forward, direction}
@@ -23,7 +23,7 @@ size_back a h = omega (arith, ints)
 pub fitted-requires : goal.fitted-requires
 fitted-requires c =
     let e = c.args.self in
-    let s = c.args.p.turn.index in
+    let s = (index c.args.p.turn) in
     let l = below_eight c.args.p.turn in
     let fdx : SFits w32 c.args.self.dx = search rules in
     let fdy : SFits w32 c.args.self.dy = search rules in
@@ -46,7 +46,7 @@ fitted-requires c =
 pub overflow_sub-dx : goal.overflow_sub-dx
 overflow_sub-dx c =
     let e = c.args.self in
-    let s = c.args.p.turn.index in
+    let s = (index c.args.p.turn) in
     let l = below_eight c.args.p.turn in
     let fdx : SFits w32 c.args.self.dx = search rules in
     let fdy : SFits w32 c.args.self.dy = search rules in
@@ -60,7 +60,7 @@ overflow_sub-dx c =
 pub overflow_sub-dy : goal.overflow_sub-dy
 overflow_sub-dy c =
     let e = c.args.self in
-    let s = c.args.p.turn.index in
+    let s = (index c.args.p.turn) in
     let l = below_eight c.args.p.turn in
     let fdx : SFits w32 c.args.self.dx = search rules in
     let fdy : SFits w32 c.args.self.dy = search rules in
@@ -74,7 +74,7 @@ overflow_sub-dy c =
 pub fitted-requires-else-forward : goal.fitted-requires-else-forward
 fitted-requires-else-forward c =
     let e = c.args.self in
-    let s = c.args.p.turn.index in
+    let s = (index c.args.p.turn) in
     let l = below_eight c.args.p.turn in
     let fdx : SFits w32 c.args.self.dx = search rules in
     let fdy : SFits w32 c.args.self.dy = search rules in
@@ -99,7 +99,7 @@ fitted-requires-else-forward c =
 pub returns-then-forward : goal.returns-then-forward
 returns-then-forward c =
     let e = c.args.self in
-    let s = c.args.p.turn.index in
+    let s = (index c.args.p.turn) in
     let l = below_eight c.args.p.turn in
     let fdx : SFits w32 c.args.self.dx = search rules in
     let fdy : SFits w32 c.args.self.dy = search rules in
@@ -123,7 +123,7 @@ returns-then-forward c =
 pub returns-else-forward : goal.returns-else-forward
 returns-else-forward c =
     let e = c.args.self in
-    let s = c.args.p.turn.index in
+    let s = (index c.args.p.turn) in
     let l = below_eight c.args.p.turn in
     let fdx : SFits w32 c.args.self.dx = search rules in
     let fdy : SFits w32 c.args.self.dy = search rules in

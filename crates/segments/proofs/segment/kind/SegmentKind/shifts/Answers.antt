@@ -9,6 +9,7 @@ use Rattle.segments.specs.declared.segment.Edge.{Edge}
 use Rattle.segments.specs.Images.{edge_ends}
 use Rattle.segments.proofs.Shifting.{not_forward, not_across, not_up, shift_by}
 use Rattle.segments.proofs.segment.kind.SegmentKind.shifts.Goals as goal
+use Rattle.lattice.specs.Turns.{index}
 
 fits : (a b : ℤ) → ranged a ≡ true → ranged b ≡ true → SFits w32 (a -ℤ b)
 fits a b h k = let p = ranged_parts a h in let q = ranged_parts b k in omega (arith, ints)
@@ -25,13 +26,13 @@ returns-then-not-forward c =
     let X = to_z-of_z w64 c.from.result gx ∙ simp to_z-of_z at c.from.ensures in
     let Y = to_z-of_z w64 c.from-2.result gy ∙ simp to_z-of_z at c.from-2.ensures in
     let f : forward c.args.from.dx c.args.from.dy ≡ false = (λ i. forward (sym X i) (sym Y i)) ∙ sym c.forward.ensures ∙ c.if-not-forward.true in
-    not_forward c.args.turn.index c.args.from c.args.to f
+    not_forward (index c.args.turn) c.args.from c.args.to f
 
 pub returns-then-image-to : goal.returns-then-image-to
-returns-then-image-to c = not_across c.args.turn.index c.args.from c.args.to (below_eight c.args.turn) (λ h. c.if-image-to.true (ap (of_z w32) (ap (λ (a : Edge). a.dx) c.turned-image.ensures.value ∙ h)))
+returns-then-image-to c = not_across (index c.args.turn) c.args.from c.args.to (below_eight c.args.turn) (λ h. c.if-image-to.true (ap (of_z w32) (ap (λ (a : Edge). a.dx) c.turned-image.ensures.value ∙ h)))
 
 pub returns-then-image-to-2 : goal.returns-then-image-to-2
-returns-then-image-to-2 c = not_up c.args.turn.index c.args.from c.args.to (below_eight c.args.turn) (λ h. c.if-image-to-2.true (ap (of_z w32) (ap (λ (a : Edge). a.dy) c.turned-image.ensures.value ∙ h)))
+returns-then-image-to-2 c = not_up (index c.args.turn) c.args.from c.args.to (below_eight c.args.turn) (λ h. c.if-image-to-2.true (ap (of_z w32) (ap (λ (a : Edge). a.dy) c.turned-image.ensures.value ∙ h)))
 
 pub overflow_sub-result : goal.overflow_sub-result
 overflow_sub-result c =
@@ -76,4 +77,4 @@ returns c =
     let DY = ap (λ (a : Edge). a.dy) (sym v) ∙ same_bits c.turned-image.result.dy c.args.to.dy fh fg c.if-image-to-2.false in
     let U = ap (λ (z : ℤ). to_z w32 (of_z w32 z)) (λ i. to_z-of_z w32 c.args.to.x fa i -ℤ to_z-of_z w32 c.turned-image.result.x fb i) ∙ to_z-of_z w32 (c.args.to.x -ℤ c.turned-image.result.x) (fits c.args.to.x c.turned-image.result.x t.left c.turned-image.ensures.left) ∙ ap (λ (a : Edge). c.args.to.x -ℤ a.x) v in
     let V = ap (λ (z : ℤ). to_z w32 (of_z w32 z)) (λ i. to_z-of_z w32 c.args.to.y fc i -ℤ to_z-of_z w32 c.turned-image.result.y fd i) ∙ to_z-of_z w32 (c.args.to.y -ℤ c.turned-image.result.y) (fits c.args.to.y c.turned-image.result.y t.low c.turned-image.ensures.low) ∙ ap (λ (a : Edge). c.args.to.y -ℤ a.y) v in
-    shift_by c.args.turn.index c.args.from c.args.to _ _ (below_eight c.args.turn) h f DX DY g U V
+    shift_by (index c.args.turn) c.args.from c.args.to _ _ (below_eight c.args.turn) h f DX DY g U V
