@@ -9,7 +9,7 @@ pub mod kind;
 pub mod make;
 mod walk;
 
-#[derive(Clone, Copy)]
+#[derive(Clone, Copy, PartialEq, Eq, Debug)]
 pub struct Segment {
     x: i32,
     y: i32,
@@ -25,7 +25,7 @@ pub struct Segment {
 }
 
 // A unit edge, in the field or not: its lower end, and the way to its upper end. An atom of segments.
-#[derive(Clone, Copy)]
+#[derive(Clone, Copy, PartialEq, Eq, Debug)]
 pub struct Edge {
     pub x: i32,
     pub y: i32,

@@ -6,7 +6,6 @@ use crate::arithmetic::forward;
 use crate::segment::images::fitted;
 use crate::segment::{Edge, Segment};
 use kinds::kind::Kind;
-use lattice::order::compare;
 use lattice::placement::Placement;
 use lattice::turn::Turn;
 use std::cmp::Ordering;
@@ -25,9 +24,7 @@ impl Kind for Segment {
     }
 
     fn compare(&self, other: &Segment) -> Ordering {
-        let across = compare(self.dx, other.dx);
-        let up = compare(self.dy, other.dy);
-        across.then(up.then(compare(self.constant(), other.constant())))
+        self.carrier().cmp(&other.carrier())
     }
 
     fn start(&self) -> i32 {
