@@ -2,6 +2,7 @@
 use Rattle.std.specs.Prelude.{◌≡◌, ℕ, true, T, List, [], ◌∷◌, ℤ, pos, is_some, Some, None, Option, nat_lt}
 use Rattle.std.proofs.Common.{sym, subst}
 use Rattle.lattice.specs.declared.placement.Placement.{Placement}
+use Rattle.lattice.specs.Turns.{turn_at}
 use Rattle.lattice.specs.Field.{shifting}
 use Rattle.kinds.specs.Model.{KindModel}
 use Rattle.elements.specs.declared.point.Point.{Point}
@@ -50,7 +51,7 @@ abbrev pub upright : (x y n : ℤ) → is_some (segment x y (pos 0) (pos 1) n) �
 upright x y n h = cut x y (pos 0) (pos 1) n h
 
 abbrev pub place : (s : ℕ) (u v : ℤ) → nat_lt s 8 ≡ true → shifting u ≡ true → shifting v ≡ true → Placement
-place s u v h k l = record { turn = record { index = s; proper = h }; across = u; up = v; sideways = k; upwards = l }
+place s u v h k l = record { turn = turn_at s; across = u; up = v; sideways = k; upwards = l }
 
 -- calls with their answers
 abbrev pub Told : Type 0

@@ -1,7 +1,7 @@
 -- The list of places exists: of finitely many placements each is a place or none.
 use Rattle.std.proofs.Common.{◌≡◌, ℕ, zero, suc, ◌+◌, ◌-◌, ◌<◌, Bool, true, false, not, ◌&&◌, ◌||◌, ltb, ◌⊎◌, ◌↔◌, List, [], ◌∷◌, ◌++◌, ℤ, pos, negsuc, ◌+ℤ◌, ◌≤ℤ◌, Some, sym, refl, ap, ◌∙◌, subst, inl, inr, ⊎_elim, arith}
 use Rattle.std.proofs.lemmas.Int.{ints}
-use Rattle.std.proofs.lemmas.Bool.{false≢true, both_ways, and_parts, cases_order, and_from, or_cases, or_left, or_right}
+use Rattle.std.proofs.lemmas.Bool.{false≢true, both_ways, ltb-true, lt-ltb, and_parts, cases_order, and_from, or_cases, or_left, or_right}
 use Rattle.lattice.specs.declared.placement.Placement.{Placement}
 use Rattle.lattice.specs.Field.{shifting}
 use Rattle.lattice.specs.Order.{triple, Earlier}
@@ -18,7 +18,8 @@ use Rattle.grammar.specs.Sets.{Set, Sets}
 use Rattle.grammar.proofs.Numbers.{none_some, Mem, Rises, split, mem_cons}
 use Rattle.grammar.proofs.Placements.{turn_below, shift_low, shift_high, before_trans, compared}
 use Rattle.grammar.proofs.Tests.{or_not, not_or}
-use Rattle.lattice.specs.Turns.{index}
+use Rattle.lattice.specs.Turns.{index, turn_at}
+use Rattle.lattice.proofs.Turning.{index_at}
 
 -- each is earlier than all that stand behind it
 abbrev pub Sorted : List Placement → Type 0
@@ -131,7 +132,7 @@ counted_up m k (negsuc n) h g = (m - n, omega (arith, ints), omega (arith, ints)
 
 -- all placements with the turn and the shifts, if there are
 turned : (s : ℕ) (b : Bool) → ltb s 8 ≡ b → (u v : ℤ) (c d : Bool) → shifting u ≡ c → shifting v ≡ d → List Placement
-turned s true p u v true true q r = record { turn = record { index = s; proper = p }; across = u; up = v; sideways = q; upwards = r } ∷ []
+turned s true p u v true true q r = record { turn = turn_at s; across = u; up = v; sideways = q; upwards = r } ∷ []
 turned s true p u v true false q r = []
 turned s true p u v false true q r = []
 turned s true p u v false false q r = []
@@ -145,11 +146,11 @@ everywhere = gathered 8 (λ s. gathered (suc (suc (3999 + 4000))) (λ u. gathere
 
 mem_turned : (p : Placement) (s : ℕ) (b : Bool) (e : ltb s 8 ≡ b) (u v : ℤ) (c d : Bool) (f : shifting u ≡ c) (g : shifting v ≡ d) → s ≡ (index p.turn) → u ≡ p.across → v ≡ p.up → Mem (turned s b e u v c d f g) p
 unfolding turned
-mem_turned p s true e u v true true f g x y z = (1, ap Some (same_placement _ p x y z))
+mem_turned p s true e u v true true f g x y z = (1, ap Some (same_placement _ p (index_at s (ltb-true s 8 e) ∙ x) y z))
 mem_turned p s true e u v true false f g x y z = absurd (both_ways (shifting v) g (ap shifting z ∙ p.upwards))
 mem_turned p s true e u v false true f g x y z = absurd (both_ways (shifting u) f (ap shifting y ∙ p.sideways))
 mem_turned p s true e u v false false f g x y z = absurd (both_ways (shifting u) f (ap shifting y ∙ p.sideways))
-mem_turned p s false e u v c d f g x y z = absurd (both_ways (ltb s 8) e (ap (λ n. ltb n 8) x ∙ p.turn.proper))
+mem_turned p s false e u v c d f g x y z = absurd (both_ways (ltb s 8) e (ap (λ n. ltb n 8) x ∙ lt-ltb (index p.turn) 8 (turn_below p)))
 
 all_there : (p : Placement) → Mem everywhere p
 unfolding everywhere with_numbers

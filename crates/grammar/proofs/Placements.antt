@@ -9,10 +9,11 @@ use Rattle.lattice.specs.Order.{Triple, triple, Before, Earlier}
 use Rattle.lattice.proofs.Same.{same_placement}
 use Rattle.kinds.proofs.Numbers.{lt_from, le_from}
 use Rattle.lattice.specs.Turns.{index}
+use Rattle.lattice.proofs.Turning.{below_eight}
 
 -- what a placement's type says of its numbers
 pub turn_below : (p : Placement) → (index p.turn) < 8
-turn_below p = ltb-true (index p.turn) 8 p.turn.proper
+turn_below p = below_eight p.turn
 
 pub shift_low : (z : ℤ) → shifting z ≡ true → negsuc 3999 ≤ℤ z
 shift_low z h = le_from _ _ (and_parts (le_z (negsuc 3999) z) (le_z z (pos 4000)) h).0

@@ -1,9 +1,9 @@
 -- Turns, and placements, with the same numbers are the same.
-use Rattle.std.proofs.Common.{◌≡◌, ℕ, Bool, true, [], ◌∷◌, get_or, refl, sym, ap, ◌∙◌}
+use Rattle.std.proofs.Common.{◌≡◌, Bool, true, refl, sym, ap, ◌∙◌}
 use mathlib.Core.HLevel.{hedberg, is_prop→PathP}
 use mathlib.Core.Bool.{Bool-discrete}
 use Rattle.lattice.specs.Field.{shifting}
-use Rattle.lattice.specs.Turns.{index}
+use Rattle.lattice.specs.Turns.{index, turn_at}
 use Rattle.lattice.specs.declared.placement.Placement.{Placement}
 use Rattle.lattice.specs.declared.turn.Turn.{Turn}
 use Rattle.lattice.specs.declared.turn.Turn.TheVariants.{Whole, Quarter, Half, ThreeQuarters, Mirrored, MirroredQuarter, MirroredHalf, MirroredThreeQuarters}
@@ -12,10 +12,7 @@ use Rattle.lattice.specs.declared.turn.Turn.TheVariants.{Whole, Quarter, Half, T
 pub bools : IsSet Bool
 bools = hedberg Bool-discrete
 
--- the turn of an index; past the eighth some turn
-abbrev pub turn_at : ℕ → Turn
-turn_at s = get_or (Whole ∷ Quarter ∷ Half ∷ ThreeQuarters ∷ Mirrored ∷ MirroredQuarter ∷ MirroredHalf ∷ []) s MirroredThreeQuarters
-
+-- a turn is the one of its index
 pub turn_back : (t : Turn) → turn_at (index t) ≡ t
 turn_back = elim [ Whole ↦ refl | Quarter ↦ refl | Half ↦ refl | ThreeQuarters ↦ refl | Mirrored ↦ refl | MirroredQuarter ↦ refl | MirroredHalf ↦ refl | MirroredThreeQuarters ↦ refl ]
 

@@ -13,6 +13,10 @@ index MirroredQuarter = 5
 index MirroredHalf = 6
 index MirroredThreeQuarters = 7
 
+-- the turn of an index; past the eighth the last
+abbrev pub turn_at : ℕ → Turn
+turn_at s = slice_index_or (Whole ∷ Quarter ∷ Half ∷ ThreeQuarters ∷ Mirrored ∷ MirroredQuarter ∷ MirroredHalf ∷ []) s MirroredThreeQuarters
+
 -- across, one entry for each turn
 unfoldable pub across : ℕ → ℤ → ℤ → ℤ
 across s x y = slice_index_or (x ∷ neg_ℤ y ∷ neg_ℤ x ∷ y ∷ neg_ℤ x ∷ neg_ℤ y ∷ x ∷ y ∷ []) s x
