@@ -8,6 +8,8 @@ ghost use Rattle.grammar.specs.Meaning.{Meaning};
 
 use kinds::kind::Kind;
 
+pub mod ordinal;
+
 // Places and their numbers follow from what a drawing covers, and that follows from its record.
 pub fn places_follow_cover<M: Kind, C: Kind>()
     ensures { Meaning M.Kind.model C.Kind.model }

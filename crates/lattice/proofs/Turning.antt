@@ -1,9 +1,9 @@
 -- What the turns keep.
-use Rattle.std.proofs.Common.{◌≡◌, ℕ, zero, suc, ◌<◌, ◌≤◌, true, ℤ, pos, negsuc, ◌+ℤ◌, ◌*ℤ◌, neg_ℤ, nat_abs, sym, refl, subst, arith}
+use Rattle.std.proofs.Common.{◌≡◌, ℕ, zero, suc, ◌<◌, ◌≤◌, true, get_or, ℤ, pos, negsuc, ◌+ℤ◌, ◌*ℤ◌, neg_ℤ, nat_abs, sym, refl, subst, arith}
 use Rattle.std.proofs.lemmas.Int.{ints}
 use Rattle.numbers.proofs.Ring.{times_neg}
 use Rattle.lattice.specs.Field.{ranged}
-use Rattle.lattice.specs.Turns.{index, turn_at, across, upward}
+use Rattle.lattice.specs.Turns.{index, turns, turn_at, across, upward}
 use Rattle.lattice.specs.declared.turn.Turn.{Turn}
 use Rattle.lattice.specs.declared.turn.Turn.TheVariants.{Whole, Quarter, Half, ThreeQuarters, Mirrored, MirroredQuarter, MirroredHalf, MirroredThreeQuarters}
 use Rattle.lattice.proofs.Bounds.{ranged_size, size_ranged}
@@ -20,9 +20,13 @@ by_turn P a b c d e f g h (suc (suc (suc (suc (suc (suc zero)))))) l = g
 by_turn P a b c d e f g h (suc (suc (suc (suc (suc (suc (suc zero))))))) l = h
 by_turn P a b c d e f g h (suc (suc (suc (suc (suc (suc (suc (suc n)))))))) l = absurd (omega arith)
 
+-- the turn that stands at an index has it
+pub index_of : (s : ℕ) (d : Turn) → s < 8 → index (get_or turns s d) ≡ s
+index_of s d = by_turn (λ n. index (get_or turns n d) ≡ n) refl refl refl refl refl refl refl refl s
+
 -- an index below 8 is that of its turn
 pub index_at : (s : ℕ) → s < 8 → index (turn_at s) ≡ s
-index_at = by_turn (λ s. index (turn_at s) ≡ s) refl refl refl refl refl refl refl refl
+index_at s = index_of s MirroredThreeQuarters
 
 pub below_eight : (t : Turn) → index t < 8
 below_eight = elim [ Whole ↦ omega arith | Quarter ↦ omega arith | Half ↦ omega arith | ThreeQuarters ↦ omega arith | Mirrored ↦ omega arith | MirroredQuarter ↦ omega arith | MirroredHalf ↦ omega arith | MirroredThreeQuarters ↦ omega arith ]

@@ -1,5 +1,5 @@
 -- The eight turns: the index of each, and where the turn of an index takes the point (x, y). Past the eighth nothing is said.
-use Rattle.std.specs.Prelude.{ℕ, [], ◌∷◌, ℤ, neg_ℤ, slice_index_or}
+use Rattle.std.specs.Prelude.{ℕ, List, [], ◌∷◌, ℤ, neg_ℤ, slice_index_or}
 use Rattle.lattice.specs.declared.turn.Turn.{Turn}
 use Rattle.lattice.specs.declared.turn.Turn.TheVariants.{Whole, Quarter, Half, ThreeQuarters, Mirrored, MirroredQuarter, MirroredHalf, MirroredThreeQuarters}
 
@@ -13,9 +13,13 @@ index MirroredQuarter = 5
 index MirroredHalf = 6
 index MirroredThreeQuarters = 7
 
+-- all eight, each at its index
+abbrev pub turns : List Turn
+turns = Whole ∷ Quarter ∷ Half ∷ ThreeQuarters ∷ Mirrored ∷ MirroredQuarter ∷ MirroredHalf ∷ MirroredThreeQuarters ∷ []
+
 -- the turn of an index; past the eighth the last
 abbrev pub turn_at : ℕ → Turn
-turn_at s = slice_index_or (Whole ∷ Quarter ∷ Half ∷ ThreeQuarters ∷ Mirrored ∷ MirroredQuarter ∷ MirroredHalf ∷ []) s MirroredThreeQuarters
+turn_at s = slice_index_or turns s MirroredThreeQuarters
 
 -- across, one entry for each turn
 unfoldable pub across : ℕ → ℤ → ℤ → ℤ

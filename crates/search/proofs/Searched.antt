@@ -1,7 +1,7 @@
 -- What the positions of an element, the elements of a list and the turns add to a search.
 use Rattle.std.proofs.Common.{◌≡◌, ℕ, zero, suc, ◌+◌, ◌<◌, ◌≤◌, Bool, true, ◌&&◌, ◌||◌, ◌⊎◌, List, [], ◌∷◌, length, get_or, take, ℤ, pos, ◌+ℤ◌, ◌≤ℤ◌, ◌<ℤ◌, Some, None, Option, sym, refl, ap, ◌∙◌, subst, inl, inr, ⊎_elim, le_of_suc-le-suc, add-one, arith}
 use Rattle.std.proofs.lemmas.Int.{ints}
-use Rattle.std.proofs.lemmas.Bool.{both_ways, ltb-true, cases_order, and_from, or_cases, or_left, or_right}
+use Rattle.std.proofs.lemmas.Bool.{both_ways, cases_order, and_from, or_cases, or_left, or_right}
 use Rattle.lattice.specs.declared.placement.Placement.{Placement}
 use Rattle.lattice.specs.declared.turn.Turn.{Turn}
 use Rattle.search.specs.declared.scene.Scene.{Scene}
@@ -141,22 +141,14 @@ module _ {E A C : Type 0} (m : KindModel E A C) (r : Rules m) (F : Placement →
       n o (λ w. least_same (Upto i xs) (λ p. Upto i xs p ⊎ (None ≡ Some p)) t n (λ p u. inl u) (λ p u. ⊎_elim (λ y. y) (λ y. absurd (none_some y)) u) h) k)
 
 -- the first place of the first turn that has one
-module _ (P : Placement → Type 0) (t : Triple) (turn : ℕ) (low : (p : Placement) → P p → Before t (triple p) → turn ≤ (index p.turn)) where
+module _ (P : Placement → Type 0) (t : Triple) (turn : ℕ) (low : (p : Placement) → P p → Before t (triple p) → turn ≤ index p.turn) where
   pub turn_found : (p : Placement) → LeastOf (λ q. ((index q.turn) ≡ turn) × P q) t (Some p) → LeastOf P t (Some p)
   turn_found p h = (h.0.1, h.1, λ q x w. go q x w (low q x w) (cases_order turn (index q.turn)))
     where
-      go : (q : Placement) → P q → Before t (triple q) → turn ≤ (index q.turn) → (turn ≡ (index q.turn)) ⊎ ((turn < (index q.turn)) ⊎ ((index q.turn) < turn)) → (p ≡ q) ⊎ Earlier p q
+      go : (q : Placement) → P q → Before t (triple q) → turn ≤ index q.turn → (turn ≡ (index q.turn)) ⊎ ((turn < (index q.turn)) ⊎ ((index q.turn) < turn)) → (p ≡ q) ⊎ Earlier p q
       go q x w l (inr (inl a)) = let e = h.0.0 in inr (inl (omega (arith, ints, e)))
       go q x w l (inl a) = h.2 q (sym a, x) w
       go q x w l (inr (inr a)) = absurd (omega arith)
-
-  pub turn_passed : LeastOf (λ q. ((index q.turn) ≡ turn) × P q) t None → (p : Placement) → P p → Before t (triple p) → turn + 1 ≤ (index p.turn)
-  turn_passed h p x w = go (low p x w) (cases_order turn (index p.turn))
-    where
-      go : turn ≤ (index p.turn) → (turn ≡ (index p.turn)) ⊎ ((turn < (index p.turn)) ⊎ ((index p.turn) < turn)) → turn + 1 ≤ (index p.turn)
-      go l (inr (inl a)) = omega arith
-      go l (inl a) = absurd (h p (sym a, x) w)
-      go l (inr (inr a)) = absurd (omega arith)
 
 module _ {E A C : Type 0} (m : KindModel E A C) (r : Rules m) where
   pub first_found : (xs : List E) (x : E) (o : Option A) (i : ℤ) → 0 < length xs → x ≡ get_or xs 0 x → i ≡ m.start x → AtomAt m x i o → FirstAtom m xs o

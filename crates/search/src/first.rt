@@ -45,19 +45,15 @@ fn beats(q: Placement, best: Option<Placement>) -> bool
 fn first_atom<K: Kind>(xs: &[K]) -> Option<K::Atom>
     ensures { FirstAtom K.model xs.now result }
 {
-    if xs.len() > 0 {
-        let e = &xs[0];
-        e.atom(e.start())
-    } else {
-        None
-    }
+    let e = xs.first()?;
+    e.atom(e.start())
 }
 
 // Whether no placement of a turn comes after the bound.
-fn is_too_early(turn: u8, after: (i32, i32, i32)) -> bool
-    ensures { T result → pos turn <ℤ after.0 }
+fn is_too_early(turn: Turn, after: (i32, i32, i32)) -> bool
+    ensures { T result → pos (Index turn) <ℤ after.0 }
 {
-    (turn as i32) < after.0
+    i32::from(turn.index()) < after.0
 }
 
 impl<'a, M: Kind, C: Kind> Scene<'a, M, C> {
@@ -152,15 +148,11 @@ impl<'a, M: Kind, C: Kind> Scene<'a, M, C> {
         ensures least { Canonical M.Kind.model C.Kind.model self.now → K.Kind.model.field from ≡ true → LeastOf (Lands K.Kind.model (Fits M.Kind.model C.Kind.model self.now) from (λ a. cover K.Kind.model xs.now a ≡ true)) (Bound after) result }
         ensures later { After (Bound after) result }
     {
-        for index in 0..8 {
-            if is_too_early(index, after) {
+        for turn in Turn::ALL {
+            if is_too_early(turn, after) {
                 continue;
             }
-            let Some(turn) = Turn::new(index) else {
-                return None;
-            };
-            let found = self.first_of_turn(from, turn, xs, after);
-            if let Some(p) = found {
+            if let Some(p) = self.first_of_turn(from, turn, xs, after) {
                 return Some(p);
             }
         }

@@ -5,16 +5,10 @@ ghost use Rattle.grammar.specs.Numbers.{nth as Nth, ordinal as Ordinal};
 ghost use Rattle.search.specs.Scenes.{Listed};
 
 use crate::scene::Scene;
+use grammar::ordinal::ordinal;
 use kinds::kind::Kind;
 use lattice::placement::Placement;
 use lattice::refusal::Refusal;
-
-// A number as it is called for: below 1 it is 0, which nothing has.
-fn counted_from_one(k: i32) -> u32
-    ensures { result ≡ Ordinal k }
-{
-    if k < 0 { 0 } else { k as u32 }
-}
 
 impl<'a, M: Kind, C: Kind> Scene<'a, M, C> {
     // How many places the left side has.
@@ -50,7 +44,7 @@ impl<'a, M: Kind, C: Kind> Scene<'a, M, C> {
     pub fn place(&self, k: i32) -> Option<Placement>
         ensures { (ps : List Placement) → Listed M.Kind.model C.Kind.model self.now ps → result ≡ Nth ps (Ordinal k) }
     {
-        self.nth(counted_from_one(k))
+        self.nth(ordinal(k))
     }
 
     // Writes the places in order, as many as there is room for, and says how many.
@@ -58,10 +52,10 @@ impl<'a, M: Kind, C: Kind> Scene<'a, M, C> {
         ensures { (ps : List Placement) → Listed M.Kind.model C.Kind.model self.now ps → (result ≡ min (length ps) (length out.old)) × (out.new ≡ take result ps ++ drop result out.old) }
     {
         let mut last = (-1, 0, 0);
-        for n in 0..out.len() {
+        for (n, slot) in out.iter_mut().enumerate() {
             match self.next(last) {
                 Some(p) => {
-                    out[n] = p;
+                    *slot = p;
                     last = p.numbers();
                 }
                 None => return n,

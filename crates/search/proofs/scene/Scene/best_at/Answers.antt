@@ -2,7 +2,6 @@
 use Rattle.std.proofs.Common.{◌≡◌, ℤ, Some, None, ap, ◌∙◌, subst, w32}
 use Rattle.std.proofs.lemmas.Int.{to_z-of_z}
 use Rattle.std.proofs.lemmas.Bool.{both_ways}
-use Rattle.lattice.specs.declared.turn.Turn.{Turn}
 use Rattle.kinds.specs.Answers.{AtomAt}
 use Rattle.search.specs.Scenes.{Fits}
 use Rattle.search.specs.Steps.{bound}

@@ -1,5 +1,6 @@
 -- Place by place, from the front of the buffer.
 use Rattle.std.proofs.Common.{◌≡◌, ℕ, ◌+◌, ◌<◌, ◌≤◌, min, List, ◌++◌, length, take, drop, set, pos, sym, refl, ap, ◌∙◌, subst, arith}
+use Rattle.std.proofs.lemmas.List.{set-get_or}
 use Rattle.lattice.specs.declared.placement.Placement.{Placement}
 use Rattle.lattice.specs.Order.{Triple}
 use Rattle.search.specs.Scenes.{sought, drawn}
@@ -21,7 +22,7 @@ pub returns-in-None : goal.returns-in-None
 returns-in-None g c = λ ps h.
     let e = no_more g.M.Kind.model g.C.Kind.model (sought g.M.Kind.model g.C.Kind.model c.args.self.now) (drawn g.M.Kind.model g.C.Kind.model c.args.self.now) ps h.numbered (bound c.loop-n.last) c.loop-n.n (c.loop-n.invariant ps h).0 (c.in-None.ensures.least h.sorted) in
     let w : c.loop-n.n < length c.args.out.now = omega arith in
-    (omega (arith, e), (c.loop-n.invariant ps h).1)
+    (omega (arith, e), set-get_or c.loop-n.out c.loop-n.n c.index-out-n.result ∙ (c.loop-n.invariant ps h).1)
 
 full : (ps old out : List Placement) (n : ℕ) → n ≤ length ps → n ≡ length out → length out ≡ length old → out ≡ take n ps ++ drop n old → (length out ≡ min (length ps) (length old)) × (out ≡ take (length out) ps ++ drop (length out) old)
 full ps old out n h e l q = (omega (arith, e, l), subst (λ (z : ℕ). out ≡ take z ps ++ drop z old) e q)
