@@ -1,8 +1,8 @@
 -- A canonical list with the atoms of one element more.
-use Rattle.std.proofs.Common.{◌≡◌, ℕ, ◌+◌, ◌-◌, ◌<◌, ◌≤◌, Bool, true, false, ◌||◌, List, [], ◌∷◌, ◌++◌, length, get_or, take, drop, IfErr, Ok, Err, Result, sym, refl, ap, ◌∙◌, subst, ⊎_elim, arith, MatchResult}
+use Rattle.std.proofs.Common.{◌≡◌, ℕ, ◌+◌, ◌-◌, ◌<◌, ◌≤◌, Bool, true, false, ◌||◌, List, [], ◌∷◌, ◌++◌, length, get_or, take, drop, Ok, Err, Result, sym, refl, ap, ◌∙◌, subst, ⊎_elim, arith, MatchResult}
 use Rattle.std.specs.List.{between, AllByRecursion}
 use Rattle.std.proofs.lemmas.Bool.{cases_lt}
-use Rattle.std.proofs.lemmas.List.{take-append-drop, drop-drop, drop_more, drop_all, length-take}
+use Rattle.std.proofs.lemmas.List.{take-append-drop, drop-drop, drop_more, drop_all}
 use Rattle.std.proofs.lemmas.List.Edits.{split_between}
 use Rattle.lattice.specs.declared.refusal.Refusal.{Refusal}
 use Rattle.kinds.specs.Model.{KindModel, covers}
@@ -44,20 +44,6 @@ module _ {E A C : Type 0} (m : KindModel E A C) (r : Rules m) where
     same = put.same;
     full = λ k. (_, record { list = _; lists = h.lists k; long = refl }, put.full);
   }
-
-  pub settled_longer : {V : Type 0} (set : A → Bool) (ps : List E) (from to : ℕ) (s t : Sheet E) (res : Result V Refusal)
-      → Change set ps from to s
-      → MatchResult res (λ _. Put from to ps s t) (λ e. NoPut from to ps s t e)
-      → length (items t) ≤ length (items s) + 1
-  settled_longer set ps from to s t (Ok v) h put = let l = h.longer in let e = ap length put.items in omega arith
-  settled_longer set ps from to s t (Err v) h put = let e = ap (λ u. length (items u)) put.same in omega arith
-
-  pub settled_taken : {V : Type 0} (set : A → Bool) (ps : List E) (from to : ℕ) (s t : Sheet E) (res : Result V Refusal)
-      → Change set ps from to s
-      → MatchResult res (λ _. Put from to ps s t) (λ e. NoPut from to ps s t e)
-      → IfErr res (λ _. length (items s) ≡ room s)
-  settled_taken set ps from to s t (Ok v) h put = tt
-  settled_taken set ps from to s t (Err v) h put = let l = h.longer in let f = put.full in let n = length-take s.count s.slots.now in omega arith
 
   -- what the search and the gathering found
   pub record Gathered (xs : List E) (e w : E) (from to : ℕ) : Type 0 where

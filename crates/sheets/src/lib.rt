@@ -2,6 +2,7 @@
 #![tactic(auto)]
 
 mod finding;
+mod listed;
 mod pieces;
 pub mod sheet;
 pub mod slots;

@@ -6,8 +6,8 @@ use Rattle.sheets.specs.Contents.{items, covered}
 use Rattle.sheets.proofs.Added.{Gathered, added_change, counted_change}
 use Rattle.sheets.proofs.sheet.Sheet.count_with.Goals as goal
 
-pub returns : goal.returns
-returns g c =
+pub returns-clause-exact : goal.returns-clause-exact
+returns-clause-exact g c =
     let m = g.K.Kind.model in
     let r = g.met.K.Kind.rules in
     let s = c.args.self.now in
@@ -19,10 +19,7 @@ returns g c =
     let f : Gathered m r (items s) e w from to = subst (λ l. Gathered m r l e w from to) c.elements-xs.ensures.value found in
     let n = ap length c.elements-xs.ensures.value in
     let within = length-take s.count s.slots.now in
-    record {
-      exact = λ k.
-          let few = k.few in
-          let long : c.saturating_add.result ≡ length (items s) - (to - from) + 1 = omega (arith, c.saturating_add.ensures) in
-          counted_change m r (union (covered m s) (covers m e)) (w ∷ []) from to _ s f.low f.high (added_change m r s e w from to f) k long;
-      few = omega (arith, c.saturating_add.ensures);
-    }
+    λ k.
+    let few = k.few in
+    let long : c.saturating_add.result ≡ length (items s) - (to - from) + 1 = omega (arith, c.saturating_add.ensures) in
+    counted_change m r (union (covered m s) (covers m e)) (w ∷ []) from to _ s f.low f.high (added_change m r s e w from to f) k long

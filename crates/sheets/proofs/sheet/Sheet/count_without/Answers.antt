@@ -8,8 +8,8 @@ use Rattle.sheets.proofs.Added.{counted_change}
 use Rattle.sheets.proofs.Removed.{Reached, Cut, cut_none, cut_some, removed_change, few_listed}
 use Rattle.sheets.proofs.sheet.Sheet.count_without.Goals as goal
 
-pub returns-then-from-to : goal.returns-then-from-to
-returns-then-from-to g c =
+pub returns-then-from-to-clause-exact : goal.returns-then-from-to-clause-exact
+returns-then-from-to-clause-exact g c =
     let m = g.K.Kind.model in
     let r = g.met.K.Kind.rules in
     let s = c.args.self.now in
@@ -21,13 +21,10 @@ returns-then-from-to g c =
     let n = ap length c.elements-xs.ensures.value in
     let q = c.if-from-to.true in
     let long : length c.elements-xs.result.now ≡ length (items s) - (to - from) + 0 = omega arith in
-    record {
-      exact = λ k. counted_change m r (difference (covered m s) (covers m e)) [] from to _ s f.reached.low f.reached.high (removed_change m r s e from to [] (omega arith) f) k long;
-      few = omega arith;
-    }
+    λ k. counted_change m r (difference (covered m s) (covers m e)) [] from to _ s f.reached.low f.reached.high (removed_change m r s e from to [] (omega arith) f) k long
 
-pub returns : goal.returns
-returns g c =
+pub returns-clause-exact : goal.returns-clause-exact
+returns-clause-exact g c =
     let m = g.K.Kind.model in
     let r = g.met.K.Kind.rules in
     let s = c.args.self.now in
@@ -43,10 +40,7 @@ returns g c =
     let more : length (listed lo ro) ≤ to - from + 1 = omega arith in
     let n = ap length c.elements-xs.ensures.value in
     let within = length-take s.count s.slots.now in
-    record {
-      exact = λ k.
-          let slots = k.few in
-          let long : c.saturating_add.result ≡ length (items s) - (to - from) + length (listed lo ro) = omega (arith, c.saturating_add.ensures, c.how_many.ensures) in
-          counted_change m r (difference (covered m s) (covers m e)) (listed lo ro) from to _ s f.reached.low f.reached.high (removed_change m r s e from to (listed lo ro) more f) k long;
-      few = omega (arith, c.saturating_add.ensures, c.how_many.ensures, c.reach-to.ensures.high);
-    }
+    λ k.
+    let slots = k.few in
+    let long : c.saturating_add.result ≡ length (items s) - (to - from) + length (listed lo ro) = omega (arith, c.saturating_add.ensures, c.how_many.ensures) in
+    counted_change m r (difference (covered m s) (covers m e)) (listed lo ro) from to _ s f.reached.low f.reached.high (removed_change m r s e from to (listed lo ro) more f) k long
