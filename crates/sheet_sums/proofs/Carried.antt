@@ -2,7 +2,7 @@
 use Rattle.std.proofs.Common.{◌≡◌, ℕ, zero, suc, ◌+◌, ◌-◌, ◌<◌, ◌≤◌, Bool, true, false, ◌||◌, ◌⊎◌, List, [], ◌∷◌, ◌++◌, length, get_or, take, drop, Ok, Err, Result, sym, refl, ap, ◌∙◌, subst, inl, inr, ⊎_elim, arith, MatchResult}
 use Rattle.std.specs.List.{AllByRecursion}
 use Rattle.std.proofs.ByRecursion.{All-weaker, All-get_or}
-use Rattle.std.proofs.lemmas.List.{take_more, take_all, append-nil, append_assoc, length-take, take-append-drop}
+use Rattle.std.proofs.lemmas.List.{take_more, append-nil, append_assoc, length-take, take-append-drop}
 use Rattle.lattice.specs.declared.refusal.Refusal.{Refusal}
 use Rattle.kinds.specs.Model.{KindModel, covers}
 use Rattle.kinds.specs.Rules.{Rules}
@@ -128,16 +128,6 @@ module _ {E A C : Type 0} (m : KindModel E A C) (r : Rules m) where
           let e = counts_one _ f.0 k f.1 c in
           let n = length-take t.count t.slots.now in
           absurd (omega (arith, f.2))
-
-    -- before the first element
-    pub counted_none : (es : List E) (s : Sheet E) (n : ℕ) → Sound m s → n ≡ length (items s) → Counts m (by op (covered m s) (cover m (take 0 es))) n
-    counted_none es s n h e = record { list = items s; lists = record { ordered = h.ordered; covering = λ a. sym (o.none (covered m s a)) }; long = sym e }
-
-    pub begun_none : (es : List E) (other s : Sheet E) → Begun m op (take 0 es) other s s
-    begun_none es other s = record { same = λ a. refl; ready = λ e b. absurd b }
-
-    pub begun_all : (es : List E) (i : ℕ) (other s t : Sheet E) → length es ≤ i → es ≡ items other → Begun m op (take i es) other s t → Begun m op (items other) other s t
-    begun_all es i other s t l q h = subst (λ l. Begun m op l other s t) (take_all i es l ∙ q) h
 
     -- the list by all elements of the other fits, after some of them as before
     pub fits_after : (other s t : Sheet E) (n : ℕ) → Sound m s → Sound m other → Begun m op (items other) other s t → room t ≡ room s → Counts m (by op (covered m s) (covered m other)) n → n ≤ room s → Fits m op other t
