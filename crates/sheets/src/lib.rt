@@ -7,4 +7,5 @@ mod listed;
 mod pieces;
 pub mod sheet;
 pub mod slots;
+mod splice;
 pub mod within;

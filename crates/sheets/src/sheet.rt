@@ -7,16 +7,14 @@ ghost use Rattle.sheets.specs.Cover.{union, difference, sizes};
 ghost use Rattle.sheets.specs.Maximal.{Part, Same, Exactly, Counts};
 ghost use Rattle.sheets.specs.Census.{Census};
 ghost use Rattle.sheets.specs.Contents.{items, room as RoomOf, Sound, covered, Became, Refused, Copied, TooMany};
-ghost use Rattle.sheets.specs.Finding.{listed};
 ghost use Rattle.sheets.specs.Put.{Put, NoPut};
 
-use crate::finding::{gather, place_of, reach};
 use crate::listed::{how_many, write};
-use crate::pieces::{extent, is_same, left_part, right_part};
+use crate::pieces::{extent, is_same};
+use crate::splice::Splice;
 use crate::within::lies_within;
 use kinds::kind::Kind;
 use lattice::refusal::Refusal;
-use std::ops::Range;
 
 // The most slots that a sheet can have.
 pub const MOST_SLOTS: usize = 4096;
@@ -69,22 +67,21 @@ impl<'a, K: Kind> Sheet<'a, K> {
         self.slots.len() - self.elements().len()
     }
 
-    // The elements of the range give way to those of the two that there are. They come as options, since an array of elements
-    // of a kind that is not known is not proved to be smaller than the memory, as a slice of it would have to be.
-    fn put(&mut self, range: Range<usize>, left: Option<K>, right: Option<K>) -> Result<(), Refusal>
-        requires low { range.start ≤ range.end }
-        requires high { range.end ≤ length (items self.old) }
-        ensures cases { MatchResult result (λ _. Put range.start range.end (listed left right) self.old self.new) (λ e. NoPut range.start range.end (listed left right) self.old self.new e) }
+    // A part of the elements gives way to others.
+    fn put(&mut self, part: Splice<K>) -> Result<(), Refusal>
+        requires low { part.from ≤ part.to }
+        requires high { part.to ≤ length (items self.old) }
+        ensures cases { MatchResult result (λ _. Put part self.old self.new) (λ e. NoPut part self.old self.new e) }
         ensures lender { self.new.slots.ghost_name ≡ self.old.slots.ghost_name }
     {
         let n = self.elements().len();
-        let others = n - (range.end - range.start);
-        let more = how_many(left, right);
+        let others = n - (part.to - part.from);
+        let more = how_many(part.left, part.right);
         if more > self.slots.len() - others {
             return Err(Refusal::SheetFull);
         }
-        self.slots.copy_within(range.end..n, range.start + more);
-        write(&mut self.slots[range.start..], left, right);
+        self.slots.copy_within(part.to..n, part.from + more);
+        write(&mut self.slots[part.from..], part.left, part.right);
         self.count = others + more;
         Ok(())
     }
@@ -96,10 +93,7 @@ impl<'a, K: Kind> Sheet<'a, K> {
         ensures taken { OnErr result (length (items self.old) ≡ RoomOf self.old) }
         ensures lender { self.new.slots.ghost_name ≡ self.old.slots.ghost_name }
     {
-        let xs = self.elements();
-        let from = place_of(xs, &e);
-        let (whole, to) = gather(xs, from, e);
-        self.put(from..to, Some(whole), None)
+        self.put(Splice::sum(self.elements(), &e))
     }
 
     // Difference with one element: the sheet covers the atoms of `e` no more.
@@ -109,15 +103,7 @@ impl<'a, K: Kind> Sheet<'a, K> {
         ensures taken { OnErr result (length (items self.old) ≡ RoomOf self.old) }
         ensures lender { self.new.slots.ghost_name ≡ self.old.slots.ghost_name }
     {
-        let xs = self.elements();
-        let from = place_of(xs, &e);
-        let to = reach(xs, from, &e);
-        if from == to {
-            return Ok(());
-        }
-        let left = left_part(xs[from], &e);
-        let right = right_part(xs[to - 1], &e);
-        self.put(from..to, left, right)
+        self.put(Splice::difference(self.elements(), &e))
     }
 
     // How many elements the sheet would have with the atoms of `e`.
@@ -126,10 +112,7 @@ impl<'a, K: Kind> Sheet<'a, K> {
         ensures few { result ≤ length (items self.now) + 1 }
     {
         let xs = self.elements();
-        let from = place_of(xs, e);
-        let (_, to) = gather(xs, from, *e);
-        let others = xs.len() - (to - from);
-        others.saturating_add(1)
+        Splice::sum(xs, e).count(xs.len())
     }
 
     // How many elements the sheet would have without the atoms of `e`.
@@ -138,15 +121,7 @@ impl<'a, K: Kind> Sheet<'a, K> {
         ensures few { result ≤ length (items self.now) + 1 }
     {
         let xs = self.elements();
-        let from = place_of(xs, e);
-        let to = reach(xs, from, e);
-        if from == to {
-            return xs.len();
-        }
-        let left = left_part(xs[from], e);
-        let right = right_part(xs[to - 1], e);
-        let others = xs.len() - (to - from);
-        others.saturating_add(how_many(left, right))
+        Splice::difference(xs, e).count(xs.len())
     }
 
     // Whether the sheet covers all atoms of `e`.
