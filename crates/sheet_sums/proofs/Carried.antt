@@ -2,7 +2,7 @@
 use Rattle.std.proofs.Common.{◌≡◌, ℕ, zero, suc, ◌+◌, ◌-◌, ◌<◌, ◌≤◌, Bool, true, false, ◌||◌, ◌⊎◌, List, [], ◌∷◌, ◌++◌, length, get_or, take, drop, Ok, Err, Result, sym, refl, ap, ◌∙◌, subst, inl, inr, ⊎_elim, arith, MatchResult}
 use Rattle.std.specs.List.{AllByRecursion}
 use Rattle.std.proofs.ByRecursion.{All-weaker, All-get_or}
-use Rattle.std.proofs.lemmas.List.{take_more, take_all, append-nil, append_assoc, length-take, take-append-drop}
+use Rattle.std.proofs.lemmas.List.{take_more, append-nil, append_assoc, length-take, take-append-drop}
 use Rattle.lattice.specs.declared.refusal.Refusal.{Refusal}
 use Rattle.kinds.specs.Model.{KindModel, covers}
 use Rattle.kinds.specs.Rules.{Rules}
@@ -15,7 +15,8 @@ use Rattle.sheets.proofs.Order.{Pairs, pairs_from, pairs_across, all_belongs, be
 use Rattle.sheets.proofs.Joined.{cover_append, or_none}
 use Rattle.sheets.proofs.Unique.{one_list, belongs_cover}
 use Rattle.sheets.proofs.Contained.{belongs_at}
-use Rattle.sheet_sums.specs.Whole.{by, Gains, Begun, Fits}
+use Rattle.sheets.specs.Change.{by}
+use Rattle.sheet_sums.specs.Whole.{Gains, Begun, Fits}
 use Rattle.sheet_sums.proofs.Steps.{Stepwise, lists_at, again, either, all, apart_all}
 
 absorbed : (b c : Bool) → (b ≡ true → c ≡ true) → (b || c) ≡ c
@@ -66,10 +67,10 @@ module _ {E A C : Type 0} (m : KindModel E A C) (r : Rules m) where
       aheads p = All-weaker _ _ (λ b h. inl (ap (ahead m b) is ∙ h)) (take i es) (front_ahead es i x p l)
 
       -- one more element counted
-      pub counted_more : (xs : List E) (c w n : ℕ) → canonical m xs ≡ true → canonical m es ≡ true → Counts m (by m op (cover m xs) (cover m (take i es))) c → Counts m (by m op (cover m xs) (covers m x)) w → n ≡ c + w - length xs → Counts m (by m op (cover m xs) (cover m (take (i + 1) es))) n
+      pub counted_more : (xs : List E) (c w n : ℕ) → canonical m xs ≡ true → canonical m es ≡ true → Counts m (by op (cover m xs) (cover m (take i es))) c → Counts m (by op (cover m xs) (covers m x)) w → n ≡ c + w - length xs → Counts m (by op (cover m xs) (cover m (take (i + 1) es))) n
       counted_more xs c w n h k p q e =
           let y = o.one p.list x p.lists.ordered in
-          let ws : Lists m (by m op (by m op (cover m xs) (cover m (take i es))) (covers m x)) y.0 = lists_at m r op y.0 y.1 (λ a. ap (λ t. op t (covers m x a)) (p.lists.covering a)) in
+          let ws : Lists m (by op (by op (cover m xs) (cover m (take i es))) (covers m x)) y.0 = lists_at m r op y.0 y.1 (λ a. ap (λ t. op t (covers m x a)) (p.lists.covering a)) in
           let long = apart_all m r op o (take i es) xs p.list q.list y.0 x h (aheads (pairs_from m r es k)) p.lists q.lists ws in
           let pl = p.long in
           let ql = q.long in
@@ -89,16 +90,16 @@ module _ {E A C : Type 0} (m : KindModel E A C) (r : Rules m) where
       }
 
       -- another is taken
-      module _ (other s t u : Sheet E) (ois : es ≡ items other) (so : Sound m other) (st : Sound m t) (h : Begun m op (take i es) other s t) (w : Became m (by m op (covered m t) (covers m x)) t u) where
+      module _ (other s t u : Sheet E) (ois : es ≡ items other) (so : Sound m other) (st : Sound m t) (h : Begun m op (take i es) other s t) (w : Became m (by op (covered m t) (covers m x)) t u) where
         inside : (a : A) → covers m x a ≡ true → covered m other a ≡ true
         inside a k = ap (λ zs. cover m zs a) (sym ois) ∙ belongs_cover m r es x a (belongs_at es i x x l is) k
 
-        listed_u : Lists m (by m op (covered m t) (covers m x)) (items u)
+        listed_u : Lists m (by op (covered m t) (covers m x)) (items u)
         listed_u = record { ordered = (w.sound st).ordered; covering = w.covers st }
 
         own : Gains m op u x
         own n c =
-            let q : Lists m (by m op (covered m u) (covers m x)) (items u) = lists_at m r op (items u) listed_u (λ a. sym (again m r op o (covered m t a) (covers m x a)) ∙ ap (λ v. op v (covers m x a)) (sym (w.covers st a))) in
+            let q : Lists m (by op (covered m u) (covers m x)) (items u) = lists_at m r op (items u) listed_u (λ a. sym (again m r op o (covered m t a) (covers m x a)) ∙ ap (λ v. op v (covers m x a)) (sym (w.covers st a))) in
             let e = counts_one _ n (length (items u)) c (counts_lists _ (items u) q) in
             omega arith
 
@@ -106,7 +107,7 @@ module _ {E A C : Type 0} (m : KindModel E A C) (r : Rules m) where
         kept e b n c =
             let v = o.one (items t) e st.ordered in
             let g = h.ready e b (length v.0) (counts_lists _ v.0 v.1) in
-            let ws : Lists m (by m op (by m op (covered m t) (covers m x)) (covers m e)) c.list = lists_at m r op c.list c.lists (λ a. ap (λ z. op z (covers m e a)) (w.covers st a)) in
+            let ws : Lists m (by op (by op (covered m t) (covers m x)) (covers m e)) c.list = lists_at m r op c.list c.lists (λ a. ap (λ z. op z (covers m e a)) (w.covers st a)) in
             let a = all_belongs _ (take i es) e (aheads (pairs_from m r es (ap (canonical m) ois ∙ so.ordered))) b in
             let long = either m r op o (items t) (items u) v.0 c.list x e st.ordered (⊎_elim inr inl a) listed_u v.1 ws in
             let cl = c.long in
@@ -119,8 +120,8 @@ module _ {E A C : Type 0} (m : KindModel E A C) (r : Rules m) where
         }
 
       -- the element does not lengthen the list, so it is not refused
-      pub begun_more : {V : Type 0} (other s t u : Sheet E) (res : Result V Refusal) (k : ℕ) → es ≡ items other → Sound m other → Sound m t → Begun m op (take i es) other s t → Counts m (by m op (covered m t) (covers m x)) k → k ≤ length (items t)
-          → MatchResult res (λ _. Became m (by m op (covered m t) (covers m x)) t u) (λ why. Refused m (by m op (covered m t) (covers m x)) t u why) → Begun m op (take (i + 1) es) other s u
+      pub begun_more : {V : Type 0} (other s t u : Sheet E) (res : Result V Refusal) (k : ℕ) → es ≡ items other → Sound m other → Sound m t → Begun m op (take i es) other s t → Counts m (by op (covered m t) (covers m x)) k → k ≤ length (items t)
+          → MatchResult res (λ _. Became m (by op (covered m t) (covers m x)) t u) (λ why. Refused m (by op (covered m t) (covers m x)) t u why) → Begun m op (take (i + 1) es) other s u
       begun_more other s t u (Ok v) k ois so st h c few w = begun_taken other s t u ois so st h w
       begun_more other s t u (Err v) k ois so st h c few w =
           let f = w.full st in
@@ -128,36 +129,26 @@ module _ {E A C : Type 0} (m : KindModel E A C) (r : Rules m) where
           let n = length-take t.count t.slots.now in
           absurd (omega (arith, f.2))
 
-    -- before the first element
-    pub counted_none : (es : List E) (s : Sheet E) (n : ℕ) → Sound m s → n ≡ length (items s) → Counts m (by m op (covered m s) (cover m (take 0 es))) n
-    counted_none es s n h e = record { list = items s; lists = record { ordered = h.ordered; covering = λ a. sym (o.none (covered m s a)) }; long = sym e }
-
-    pub begun_none : (es : List E) (other s : Sheet E) → Begun m op (take 0 es) other s s
-    begun_none es other s = record { same = λ a. refl; ready = λ e b. absurd b }
-
-    pub begun_all : (es : List E) (i : ℕ) (other s t : Sheet E) → length es ≤ i → es ≡ items other → Begun m op (take i es) other s t → Begun m op (items other) other s t
-    begun_all es i other s t l q h = subst (λ l. Begun m op l other s t) (take_all i es l ∙ q) h
-
     -- the list by all elements of the other fits, after some of them as before
-    pub fits_after : (other s t : Sheet E) (n : ℕ) → Sound m s → Sound m other → Begun m op (items other) other s t → room t ≡ room s → Counts m (by m op (covered m s) (covered m other)) n → n ≤ room s → Fits m op other t
+    pub fits_after : (other s t : Sheet E) (n : ℕ) → Sound m s → Sound m other → Begun m op (items other) other s t → room t ≡ room s → Counts m (by op (covered m s) (covered m other)) n → n ≤ room s → Fits m op other t
     fits_after other s t n ss so h q c l = record {
       ready = h.ready;
       fits = λ k d. let e = counts_one _ n k c (counts_at h.same d) in omega arith;
     }
 
     -- elements none of which shortens the list make it no shorter together
-    grows : (cs bs xs : List E) (n k : ℕ) → canonical m xs ≡ true → Pairs m (bs ++ cs) → AllByRecursion (λ c. (j : ℕ) → Counts m (by m op (cover m xs) (covers m c)) j → length xs ≤ j) cs
-        → Counts m (by m op (cover m xs) (cover m bs)) n → Counts m (by m op (cover m xs) (cover m (bs ++ cs))) k → n ≤ k
+    grows : (cs bs xs : List E) (n k : ℕ) → canonical m xs ≡ true → Pairs m (bs ++ cs) → AllByRecursion (λ c. (j : ℕ) → Counts m (by op (cover m xs) (covers m c)) j → length xs ≤ j) cs
+        → Counts m (by op (cover m xs) (cover m bs)) n → Counts m (by op (cover m xs) (cover m (bs ++ cs))) k → n ≤ k
     grows [] bs xs n k h p g c d =
         let e = counts_one _ n k c (counts_at (λ a. ap (λ zs. op (cover m xs a) (cover m zs a)) (append-nil bs)) d) in
         omega arith
     grows (y ∷ ys) bs xs n k h p g c d =
         let v = o.one xs y h in
         let w = o.one c.list y c.lists.ordered in
-        let ws : Lists m (by m op (by m op (cover m xs) (cover m bs)) (covers m y)) w.0 = lists_at m r op w.0 w.1 (λ a. ap (λ z. op z (covers m y a)) (c.lists.covering a)) in
+        let ws : Lists m (by op (by op (cover m xs) (cover m bs)) (covers m y)) w.0 = lists_at m r op w.0 w.1 (λ a. ap (λ z. op z (covers m y a)) (c.lists.covering a)) in
         let long = apart_all m r op o bs xs c.list v.0 w.0 y h (All-weaker _ _ (λ b q. inl q.0) bs (pairs_across m bs (y ∷ ys) p)) c.lists v.1 ws in
         let one = g.0 (length v.0) (counts_lists _ v.0 v.1) in
-        let next : Counts m (by m op (cover m xs) (cover m (bs ++ y ∷ []))) (length w.0) = counts_at (λ a. sym (o.both (cover m xs a) (cover m bs a) (covers m y a)) ∙ ap (op (cover m xs a)) (sym (cover_append m bs (y ∷ []) a ∙ ap (λ b. cover m bs a || b) (or_none (covers m y a))))) (counts_lists _ w.0 ws) in
+        let next : Counts m (by op (cover m xs) (cover m (bs ++ y ∷ []))) (length w.0) = counts_at (λ a. sym (o.both (cover m xs a) (cover m bs a) (covers m y a)) ∙ ap (op (cover m xs a)) (sym (cover_append m bs (y ∷ []) a ∙ ap (λ b. cover m bs a || b) (or_none (covers m y a))))) (counts_lists _ w.0 ws) in
         let shift : (bs ++ y ∷ []) ++ ys ≡ bs ++ (y ∷ ys) = append_assoc bs (y ∷ []) ys in
         let rest = grows ys (bs ++ y ∷ []) xs (length w.0) k h (subst (Pairs m) (sym shift) p) g.1 next (counts_at (λ a. ap (λ zs. op (cover m xs a) (cover m zs a)) (sym shift)) d) in
         let cl = c.long in
@@ -165,16 +156,16 @@ module _ {E A C : Type 0} (m : KindModel E A C) (r : Rules m) where
 
     -- one more element carried out: there is room for it, since there is room for all
     pub each_more : {V : Type 0} (es : List E) (i : ℕ) (x : E) (other s t u : Sheet E) (res : Result V Refusal) → i < length es → x ≡ get_or es i x → es ≡ items other → Sound m s → Sound m other → Sound m t → room t ≡ room s → Fits m op other s
-        → Same (covered m t) (by m op (covered m s) (cover m (take i es)))
-        → MatchResult res (λ _. Became m (by m op (covered m t) (covers m x)) t u) (λ why. Refused m (by m op (covered m t) (covers m x)) t u why)
-        → Same (covered m u) (by m op (covered m s) (cover m (take (i + 1) es)))
+        → Same (covered m t) (by op (covered m s) (cover m (take i es)))
+        → MatchResult res (λ _. Became m (by op (covered m t) (covers m x)) t u) (λ why. Refused m (by op (covered m t) (covers m x)) t u why)
+        → Same (covered m u) (by op (covered m s) (cover m (take (i + 1) es)))
     each_more es i x other s t u (Ok v) l is ois ss so st room_is f h w = λ a. w.covers st a ∙ ap (λ z. op z (covers m x a)) (h a) ∙ sym (by_more es i x l is (covered m s) a)
     each_more es i x other s t u (Err v) l is ois ss so st room_is f h w =
         let z = w.full st in
         let whole : take (i + 1) es ++ drop (i + 1) es ≡ es = take-append-drop (i + 1) es in
-        let c : Counts m (by m op (covered m s) (cover m (take (i + 1) es))) z.0 = counts_at (λ a. ap (λ y. op y (covers m x a)) (h a) ∙ sym (by_more es i x l is (covered m s) a)) z.1 in
+        let c : Counts m (by op (covered m s) (cover m (take (i + 1) es))) z.0 = counts_at (λ a. ap (λ y. op y (covers m x a)) (h a) ∙ sym (by_more es i x l is (covered m s) a)) z.1 in
         let y = all m r op o es (items s) ss.ordered in
-        let d : Counts m (by m op (covered m s) (cover m es)) (length y.0) = counts_lists _ y.0 y.1 in
+        let d : Counts m (by op (covered m s) (cover m es)) (length y.0) = counts_lists _ y.0 y.1 in
         let low = grows (drop (i + 1) es) (take (i + 1) es) (items s) z.0 (length y.0) ss.ordered (subst (Pairs m) (sym whole) (pairs_from m r es (ap (canonical m) ois ∙ so.ordered)))
         (all_from_belongs _ (drop (i + 1) es) (λ e b. f.ready e (subst (Belongs e) (whole ∙ ois) (belongs_right (take (i + 1) es) (drop (i + 1) es) e b)))) c (counts_at (λ a. ap (λ zs. op (covered m s a) (cover m zs a)) (sym whole)) d) in
         let high = f.fits (length y.0) (counts_at (λ a. ap (λ zs. op (covered m s a) (cover m zs a)) ois) d) in

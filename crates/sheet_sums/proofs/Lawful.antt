@@ -8,7 +8,7 @@ use Rattle.sheets.specs.Cover.{cover}
 use Rattle.sheets.proofs.Joined.{or_swap, or_assoc}
 use Rattle.sheets.proofs.Unique.{one_list}
 use Rattle.sheet_sums.specs.Laws.{SumsExist, DifferencesExist, SumCommutes, SumAssociates, SumWithItself, DifferenceThenSum, PartOfSum, PartBothWays}
-use Rattle.sheet_sums.specs.Whole.{plus, minus}
+use Rattle.sheets.specs.Change.{plus, minus}
 use Rattle.sheet_sums.proofs.Steps.{all, lists_at, lists_self, or_self}
 use Rattle.sheet_sums.proofs.Operations.{sum_steps, less_steps}
 

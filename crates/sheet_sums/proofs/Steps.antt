@@ -5,7 +5,7 @@ use Rattle.kinds.specs.Model.{KindModel, covers}
 use Rattle.kinds.specs.Rules.{Rules}
 use Rattle.sheets.specs.Cover.{cover, ahead, canonical}
 use Rattle.sheets.specs.Maximal.{Lists, Same}
-use Rattle.sheet_sums.specs.Whole.{by}
+use Rattle.sheets.specs.Change.{by}
 use Rattle.sheets.proofs.Joined.{or_swap}
 use Rattle.sheets.proofs.Unique.{one_list}
 
@@ -19,9 +19,9 @@ module _ {E A C : Type 0} (m : KindModel E A C) (r : Rules m) (op : Bool → Boo
   pub record Stepwise : Type 0 where
     pub none : (s : Bool) → op s false ≡ s
     pub both : (s t u : Bool) → op s (t || u) ≡ op (op s t) u
-    pub one : (xs : List E) (e : E) → canonical m xs ≡ true → (ys : List E) × Lists m (by m op (cover m xs) (covers m e)) ys
+    pub one : (xs : List E) (e : E) → canonical m xs ≡ true → (ys : List E) × Lists m (by op (cover m xs) (covers m e)) ys
     pub apart : (xs us vs ws : List E) (e f : E) → canonical m xs ≡ true → ahead m e f ≡ true
-        → Lists m (by m op (cover m xs) (covers m e)) us → Lists m (by m op (cover m xs) (covers m f)) vs → Lists m (by m op (by m op (cover m xs) (covers m e)) (covers m f)) ws
+        → Lists m (by op (cover m xs) (covers m e)) us → Lists m (by op (cover m xs) (covers m f)) vs → Lists m (by op (by op (cover m xs) (covers m e)) (covers m f)) ws
         → length ws + length xs ≡ length us + length vs
 
   pub lists_at : {s t : A → Bool} (xs : List E) → Lists m s xs → Same s t → Lists m t xs
@@ -38,13 +38,13 @@ module _ {E A C : Type 0} (m : KindModel E A C) (r : Rules m) (op : Bool → Boo
     again s t = sym (o.both s t t) ∙ ap (op s) (or_self t)
 
     pub either : (xs us vs ws : List E) (e f : E) → canonical m xs ≡ true → (ahead m e f ≡ true) ⊎ (ahead m f e ≡ true)
-        → Lists m (by m op (cover m xs) (covers m e)) us → Lists m (by m op (cover m xs) (covers m f)) vs → Lists m (by m op (by m op (cover m xs) (covers m e)) (covers m f)) ws
+        → Lists m (by op (cover m xs) (covers m e)) us → Lists m (by op (cover m xs) (covers m f)) vs → Lists m (by op (by op (cover m xs) (covers m e)) (covers m f)) ws
         → length ws + length xs ≡ length us + length vs
     either xs us vs ws e f h (inl k) p q s = o.apart xs us vs ws e f h k p q s
     either xs us vs ws e f h (inr k) p q s = let n = o.apart xs vs us ws f e h k q p (lists_at ws s (λ a. turned (cover m xs a) (covers m e a) (covers m f a))) in omega arith
 
     -- by all elements of a list there is a list too
-    pub all : (bs xs : List E) → canonical m xs ≡ true → (ys : List E) × Lists m (by m op (cover m xs) (cover m bs)) ys
+    pub all : (bs xs : List E) → canonical m xs ≡ true → (ys : List E) × Lists m (by op (cover m xs) (cover m bs)) ys
     all [] xs h = (xs, record { ordered = h; covering = λ a. sym (o.none (cover m xs a)) })
     all (b ∷ bs) xs h =
         let x = o.one xs b h in
@@ -53,7 +53,7 @@ module _ {E A C : Type 0} (m : KindModel E A C) (r : Rules m) (op : Bool → Boo
 
     -- an element that touches none of bs changes the length as much after them as before them
     pub apart_all : (bs xs us vs ws : List E) (e : E) → canonical m xs ≡ true → AllByRecursion (λ b. (ahead m b e ≡ true) ⊎ (ahead m e b ≡ true)) bs
-        → Lists m (by m op (cover m xs) (cover m bs)) us → Lists m (by m op (cover m xs) (covers m e)) vs → Lists m (by m op (by m op (cover m xs) (cover m bs)) (covers m e)) ws
+        → Lists m (by op (cover m xs) (cover m bs)) us → Lists m (by op (cover m xs) (covers m e)) vs → Lists m (by op (by op (cover m xs) (cover m bs)) (covers m e)) ws
         → length ws + length xs ≡ length us + length vs
     apart_all [] xs us vs ws e h k p q s =
         let a = ap length (one_list m r _ us xs (lists_at us p (λ a. o.none (cover m xs a))) (lists_self xs h)) in

@@ -1,18 +1,19 @@
 -- A canonical list with the atoms of one element more.
-use Rattle.std.proofs.Common.{◌≡◌, ℕ, ◌+◌, ◌-◌, ◌<◌, ◌≤◌, Bool, true, false, ◌||◌, List, [], ◌∷◌, ◌++◌, length, get_or, take, drop, IfErr, Ok, Err, Result, sym, refl, ap, ◌∙◌, subst, ⊎_elim, arith, MatchResult}
+use Rattle.std.proofs.Common.{◌≡◌, ℕ, ◌+◌, ◌-◌, ◌<◌, ◌≤◌, Bool, true, false, ◌||◌, List, ◌∷◌, ◌++◌, length, get_or, take, drop, Ok, Err, Result, sym, refl, ap, ◌∙◌, subst, ⊎_elim, arith, MatchResult}
 use Rattle.std.specs.List.{between, AllByRecursion}
 use Rattle.std.proofs.lemmas.Bool.{cases_lt}
-use Rattle.std.proofs.lemmas.List.{take-append-drop, drop-drop, drop_more, drop_all, length-take}
+use Rattle.std.proofs.lemmas.List.{take-append-drop, drop-drop, drop_more, drop_all}
 use Rattle.std.proofs.lemmas.List.Edits.{split_between}
 use Rattle.lattice.specs.declared.refusal.Refusal.{Refusal}
 use Rattle.kinds.specs.Model.{KindModel, covers}
 use Rattle.kinds.specs.Rules.{Rules, Touch}
 use Rattle.sheets.specs.declared.sheet.Sheet.{Sheet}
-use Rattle.sheets.specs.Cover.{cover, union, ahead, canonical}
+use Rattle.sheets.specs.Cover.{cover, ahead, canonical}
 use Rattle.sheets.specs.Maximal.{Lists, Counts}
 use Rattle.sheets.specs.Finding.{Parted, Whole}
-use Rattle.sheets.specs.Contents.{items, room, covered, Sound, Became, Refused}
-use Rattle.sheets.specs.Put.{Put, NoPut, with_put}
+use Rattle.sheets.specs.Contents.{items, room, Sound, Became, Refused}
+use Rattle.sheets.specs.Put.{Put, NoPut, Makes, news}
+use Rattle.sheets.specs.declared.splice.Splice.{Splice}
 use Rattle.sheets.proofs.Order.{Pairs, pairs_from, pairs_to}
 use Rattle.sheets.proofs.Joined.{Clear, joined_pairs, joined_cover}
 use Rattle.sheets.proofs.Spliced.{length_with}
@@ -24,40 +25,21 @@ split_rest xs from to low =
     sym (take-append-drop (to - from) (drop from xs)) ∙ ap (λ l. between from to xs ++ l) (drop-drop (to - from) from xs ∙ ap (λ k. drop k xs) index)
 
 module _ {E A C : Type 0} (m : KindModel E A C) (r : Rules m) where
-  -- what a changed list has to be: the list of the set, if the sheet was sound, and at most one longer
-  pub record Change (set : A → Bool) (ps : List E) (from to : ℕ) (s : Sheet E) : Type 0 where
-    pub lists : Sound m s → Lists m set (with_put from to ps (items s))
-    pub longer : length (with_put from to ps (items s)) ≤ length (items s) + 1
-
   -- a change to a list that covers the set, or a refusal for want of room
-  pub settled : {V : Type 0} (set : A → Bool) (ps : List E) (from to : ℕ) (s t : Sheet E) (res : Result V Refusal)
-      → Change set ps from to s
-      → MatchResult res (λ _. Put from to ps s t) (λ e. NoPut from to ps s t e)
+  pub settled : {V : Type 0} (set : A → Bool) (p : Splice E) (s t : Sheet E) (res : Result V Refusal)
+      → Makes m set (items s) p
+      → MatchResult res (λ _. Put p s t) (λ e. NoPut p s t e)
       → MatchResult res (λ _. Became m set s t) (λ e. Refused m set s t e)
-  settled set ps from to s t (Ok v) h put = record {
-    sound = λ k. record { ordered = ap (canonical m) put.items ∙ (h.lists k).ordered; few = (let f = k.few in let p = put.room in omega arith) };
-    covers = λ k a. ap (λ l. cover m l a) put.items ∙ (h.lists k).covering a;
+  settled set p s t (Ok v) h put = record {
+    sound = λ k. record { ordered = ap (canonical m) put.items ∙ (h.lists k.ordered).ordered; few = (let f = k.few in let q = put.room in omega arith) };
+    covers = λ k a. ap (λ l. cover m l a) put.items ∙ (h.lists k.ordered).covering a;
     room = put.room;
   }
-  settled set ps from to s t (Err v) h put = record {
+  settled set p s t (Err v) h put = record {
     number = put.number;
     same = put.same;
-    full = λ k. (_, record { list = _; lists = h.lists k; long = refl }, put.full);
+    full = λ k. (_, record { list = _; lists = h.lists k.ordered; long = refl }, put.full);
   }
-
-  pub settled_longer : {V : Type 0} (set : A → Bool) (ps : List E) (from to : ℕ) (s t : Sheet E) (res : Result V Refusal)
-      → Change set ps from to s
-      → MatchResult res (λ _. Put from to ps s t) (λ e. NoPut from to ps s t e)
-      → length (items t) ≤ length (items s) + 1
-  settled_longer set ps from to s t (Ok v) h put = let l = h.longer in let e = ap length put.items in omega arith
-  settled_longer set ps from to s t (Err v) h put = let e = ap (λ u. length (items u)) put.same in omega arith
-
-  pub settled_taken : {V : Type 0} (set : A → Bool) (ps : List E) (from to : ℕ) (s t : Sheet E) (res : Result V Refusal)
-      → Change set ps from to s
-      → MatchResult res (λ _. Put from to ps s t) (λ e. NoPut from to ps s t e)
-      → IfErr res (λ _. length (items s) ≡ room s)
-  settled_taken set ps from to s t (Ok v) h put = tt
-  settled_taken set ps from to s t (Err v) h put = let l = h.longer in let f = put.full in let n = length-take s.count s.slots.now in omega arith
 
   -- what the search and the gathering found
   pub record Gathered (xs : List E) (e w : E) (from to : ℕ) : Type 0 where
@@ -81,15 +63,9 @@ module _ {E A C : Type 0} (m : KindModel E A C) (r : Rules m) where
     pub added_cover : (a : A) → cover m (take from xs ++ (w ∷ drop to xs)) a ≡ (cover m xs a || covers m e a)
     added_cover a = joined_cover m r e w (take from xs) (between from to xs) (drop to xs) a f.whole ∙ ap (λ l. cover m l a || covers m e a) (sym (split_between xs from to f.low))
 
-  pub added_change : (s : Sheet E) (e w : E) (from to : ℕ) → Gathered (items s) e w from to → Change (union (covered m s) (covers m e)) (w ∷ []) from to s
-  added_change s e w from to f = record {
-    lists = λ k. record { ordered = added_canonical (items s) e w from to f k.ordered; covering = added_cover (items s) e w from to f };
-    longer = (let l = f.low in let h = f.high in omega (arith, length_with (items s) (w ∷ []) from to l h));
-  }
-
   -- how long the changed list is
-  pub counted_change : (set : A → Bool) (ps : List E) (from to n : ℕ) (s : Sheet E) → from ≤ to → to ≤ length (items s) → Change set ps from to s → Sound m s → n ≡ length (items s) - (to - from) + length ps → Counts m set n
-  counted_change set ps from to n s low high h k e = record { list = _; lists = h.lists k; long = length_with (items s) ps from to low high ∙ sym e }
+  pub counted : (set : A → Bool) (p : Splice E) (n : ℕ) (s : Sheet E) → Makes m set (items s) p → Sound m s → n ≡ length (items s) - (p.to - p.from) + length (news p) → Counts m set n
+  counted set p n s h k e = record { list = _; lists = h.lists k.ordered; long = length_with (items s) (news p) p.from p.to h.low h.high ∙ sym e }
 
   -- of a refusal: every list of the set is longer than there are slots
   pub refused_any : (set : A → Bool) (s t : Sheet E) (why : Refusal) → Refused m set s t why → Sound m s → (ys : List E) → Lists m set ys → room s < length ys

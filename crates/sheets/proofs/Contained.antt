@@ -1,6 +1,7 @@
 -- Whether a canonical list covers all of an element: the one place to look.
-use Rattle.std.proofs.Common.{◌≡◌, ℕ, zero, suc, ◌+◌, ◌<◌, ◌≤◌, Bool, true, false, List, [], ◌∷◌, length, get_or, take, drop, Decides, sym, ap, ◌∙◌, subst, inl, inr, ⊎_elim, arith}
+use Rattle.std.proofs.Common.{◌≡◌, ℕ, zero, suc, ◌+◌, ◌<◌, ◌≤◌, Bool, true, false, List, [], ◌∷◌, length, get_or, take, drop, Some, None, Option, MatchOption, Decides, Bor, sym, ap, ◌∙◌, subst, inl, inr, ⊎_elim, arith}
 use Rattle.std.specs.List.{AllByRecursion}
+use Rattle.std.specs.Slice.{IsItemAt}
 use Rattle.std.proofs.lemmas.List.{drop_more, drop_all, take-append-drop}
 use Rattle.std.proofs.lemmas.Bool.{false≢true, both_ways}
 use Rattle.std.proofs.lemmas.Int.{ints}
@@ -51,3 +52,8 @@ module _ {E A C : Type 0} (m : KindModel E A C) (r : Rules m) where
       λ k. let f = inside_one m r xs e (pairs_from m r xs h) k in
           absurd (subst (Belongs f.one) (drop_all at xs l) (past_front f.one f.over f.belongs)),
     )
+
+    -- what is at the place, if anything is
+    pub at_place : (o : Option (Bor E)) (t : Bool) → IsItemAt xs at o → MatchOption o (t ≡ false) (λ x. Decides t (Part (covers m e) (covers m x.now))) → Decides t (Part (covers m e) (cover m xs))
+    at_place None t l d = subst (λ b. Decides b (Part (covers m e) (cover m xs))) (sym d) (at_none (grind arith))
+    at_place (Some x) t l d = at_one x.now t (grind arith) (grind arith) d

@@ -1,24 +1,29 @@
--- The elements of a list, one after the other, in a set.
-use Rattle.std.proofs.Common.{◌≡◌, ℕ, ◌+◌, ◌<◌, ◌≤◌, Bool, true, false, List, [], ◌∷◌, ◌++◌, length, get_or, take, Decides, sym, refl, ap, ◌∙◌, ⊎_elim}
-use Rattle.std.proofs.lemmas.List.{take_more, take_all}
+-- The elements of a list, one by one, in a set.
+use Rattle.std.proofs.Common.{◌≡◌, ℕ, ◌<◌, Bool, true, false, List, [], ◌∷◌, length, Decides, sym, refl, ap, ◌∙◌, ⊎_elim, arith}
+use Rattle.std.specs.Bool.{MatchBool}
+use Rattle.std.specs.List.{AllByRecursion, AllWithin, HoldsAt}
 use Rattle.std.proofs.lemmas.Bool.{false≢true, or_cases}
+use Rattle.std.proofs.lemmas.List.Elements.{All-from_all_within, recursion_from_All}
 use Rattle.kinds.specs.Model.{KindModel, covers}
 use Rattle.kinds.specs.Rules.{Rules}
 use Rattle.sheets.specs.Cover.{cover}
 use Rattle.sheets.specs.Maximal.{Part}
-use Rattle.sheets.proofs.Joined.{cover_append}
 use Rattle.sheets.proofs.Unique.{belongs_cover}
 use Rattle.sheets.proofs.Contained.{belongs_at}
 
-module _ {E A C : Type 0} (m : KindModel E A C) (r : Rules m) (xs : List E) (i : ℕ) (x : E) (set : A → Bool) (l : i < length xs) (is : x ≡ get_or xs i x) where
-  pub part_more : Part (cover m (take i xs)) set → Part (covers m x) set → Part (cover m (take (i + 1) xs)) set
-  part_more h k a c =
-      let e : take (i + 1) xs ≡ take i xs ++ x ∷ [] = take_more xs i x l ∙ ap (λ y. take i xs ++ y ∷ []) (sym is) in
-      ⊎_elim (h a) (λ q. ⊎_elim (k a) (λ f. absurd (false≢true f)) (or_cases (covers m x a) false q)) (or_cases (cover m (take i xs) a) (cover m (x ∷ []) a) (sym (cover_append m (take i xs) (x ∷ []) a) ∙ ap (λ ys. cover m ys a) (sym e) ∙ c))
+module _ {E A C : Type 0} (m : KindModel E A C) (r : Rules m) (set : A → Bool) where
+  abbrev pub Inside : E → Type 0
+  Inside x = Part (covers m x) set
 
-  -- one element that is not in the set, and so the list is not
-  pub part_not : (ys : List E) (t : Bool) → xs ≡ ys → Decides t (Part (covers m x) set) → t ≡ false → Decides false (Part (cover m ys) set)
-  part_not ys t q d f = (λ h. absurd (false≢true h), λ h. sym f ∙ d.1 (λ a c. h a (ap (λ zs. cover m zs a) (sym q) ∙ belongs_cover m r xs x a (belongs_at xs i x x l is) c)))
+  all_inside : (xs : List E) → AllByRecursion Inside xs → Part (cover m xs) set
+  all_inside [] h a c = absurd (false≢true c)
+  all_inside (x ∷ xs) h a c = ⊎_elim (h.0 a) (all_inside xs h.1 a) (or_cases (covers m x a) (cover m xs a) c)
 
-pub part_all : {E A C : Type 0} (m : KindModel E A C) (xs ys : List E) (i : ℕ) (set : A → Bool) → length xs ≤ i → xs ≡ ys → Part (cover m (take i xs)) set → Decides true (Part (cover m ys) set)
-part_all m xs ys i set l q h = (λ _ a c. h a (ap (λ zs. cover m zs a) (take_all i xs l ∙ q) ∙ c), λ _. refl)
+  one_outside : (xs : List E) (k : ℕ) → k < length xs → HoldsAt (λ x. Inside x → ⊥) xs k → Part (cover m xs) set → ⊥
+  one_outside [] k l h p = absurd (omega arith)
+  one_outside (x ∷ xs) k l h p = h x (λ a c. p a (belongs_cover m r (x ∷ xs) _ a (belongs_at (x ∷ xs) k _ x l refl) c))
+
+  -- a list covers no more than a set exactly if each of its elements does
+  pub part_decides_all : (xs ys : List E) (t : Bool) → xs ≡ ys → MatchBool t (AllWithin Inside xs 0 (length xs)) ((k : ℕ) × (k < length xs) × HoldsAt (λ x. Inside x → ⊥) xs k) → Decides t (Part (cover m ys) set)
+  part_decides_all xs ys true q h = (λ _ a c. all_inside xs (recursion_from_All Inside xs (All-from_all_within Inside xs h)) a (ap (λ zs. cover m zs a) q ∙ c), λ _. refl)
+  part_decides_all xs ys false q h = (λ f. absurd (false≢true f), λ p. absurd (one_outside xs h.0 h.1 h.2 (λ a c. p a (ap (λ zs. cover m zs a) (sym q) ∙ c))))

@@ -1,9 +1,9 @@
 -- Elements that touch made one, and a canonical list with one element more.
-use Rattle.std.proofs.Common.{◌≡◌, ℕ, zero, suc, ◌<◌, Bool, true, false, ◌||◌, List, [], ◌∷◌, ◌++◌, length, get_or, take, drop, ◌<ℤ◌, sym, refl, ap, ◌∙◌, subst, inl, inr, ⊎_elim, arith}
+use Rattle.std.proofs.Common.{◌≡◌, ℕ, zero, suc, ◌<◌, ◌≤◌, Bool, true, false, ◌||◌, List, [], ◌∷◌, ◌++◌, length, get_or, ◌<ℤ◌, sym, refl, ap, ◌∙◌, subst, inl, inr, ⊎_elim, arith}
 use Rattle.std.specs.Int.{int_min}
 use Rattle.std.specs.List.{AllByRecursion}
 use Rattle.std.proofs.ByRecursion.{All-weaker, All-get_or}
-use Rattle.std.proofs.lemmas.Bool.{both_ways, cases_Bool}
+use Rattle.std.proofs.lemmas.Bool.{both_ways}
 use Rattle.std.proofs.lemmas.Int.{ints}
 use Rattle.kinds.specs.Model.{KindModel, covers}
 use Rattle.kinds.specs.Rules.{Rules, Touch, Union}
@@ -99,13 +99,10 @@ module _ {E A C : Type 0} (m : KindModel E A C) where
         ∙ ap (λ b. (cover m fs a || b) || covers m e a) (sym (cover_append ms ts a))
         ∙ ap (λ b. b || covers m e a) (sym (cover_append fs (ms ++ ts) a))
 
-    -- where the search stands: what is before an element that is ahead of e is ahead of e too, and what is after one that is not, is not
-    pub front_all : (xs : List E) (i : ℕ) (e d : E) → Pairs m xs → i < length xs → ahead m (get_or xs i d) e ≡ true → AllByRecursion (λ x. ahead m x e ≡ true) (take (suc i) xs)
-    front_all [] i e d p l h = absurd (omega arith)
-    front_all (x ∷ xs) zero e d p l h = (h, tt)
-    front_all (x ∷ xs) (suc i) e d p l h = (ahead_trans m r x _ e (All-get_or _ xs i d (omega arith) p.0) h, front_all xs i e d p.1 (omega arith) h)
-
-    pub back_none : (xs : List E) (i : ℕ) (e d : E) → Pairs m xs → i < length xs → ahead m (get_or xs i d) e ≡ false → AllByRecursion (λ x. ahead m x e ≡ false) (drop i xs)
-    back_none [] i e d p l h = absurd (omega arith)
-    back_none (x ∷ xs) zero e d p l h = (h, All-weaker _ _ (λ y k. ⊎_elim (λ q. absurd (both_ways _ h (ahead_trans m r x y e k q))) (λ q. q) (cases_Bool (ahead m y e))) xs p.0)
-    back_none (x ∷ xs) (suc i) e d p l h = back_none xs i e d p.1 (omega arith) h
+    -- no element of a canonical list that is ahead of e stands after one that is not
+    pub ahead_partitioned : (xs : List E) (e : E) → Pairs m xs → (i j : ℕ) (d : E) → i ≤ j → j < length xs → ahead m (get_or xs j d) e ≡ true → ahead m (get_or xs i d) e ≡ true
+    ahead_partitioned [] e p i j d l n h = absurd (omega arith)
+    ahead_partitioned (x ∷ xs) e p zero zero d l n h = h
+    ahead_partitioned (x ∷ xs) e p zero (suc j) d l n h = ahead_trans m r x _ e (All-get_or _ xs j d (omega arith) p.0) h
+    ahead_partitioned (x ∷ xs) e p (suc i) zero d l n h = absurd (omega arith)
+    ahead_partitioned (x ∷ xs) e p (suc i) (suc j) d l n h = ahead_partitioned xs e p.1 i j d (omega arith) (omega arith) h

@@ -1,6 +1,6 @@
 -- Lists in canonical form, all pairs at once.
-use Rattle.std.proofs.Common.{◌≡◌, true, ◌⊎◌, List, [], ◌∷◌, ◌++◌, ◌<ℤ◌, refl, subst, inl, inr, ⊎_elim}
-use Rattle.std.specs.List.{AllByRecursion}
+use Rattle.std.proofs.Common.{◌≡◌, ℕ, zero, suc, true, ◌⊎◌, List, [], ◌∷◌, ◌++◌, length, take, drop, ◌<ℤ◌, refl, subst, inl, inr, ⊎_elim, arith}
+use Rattle.std.specs.List.{AllByRecursion, AllWithin}
 use Rattle.std.proofs.lemmas.Bool.{false≢true, and_parts, and_from, or_cases}
 use Rattle.std.proofs.ByRecursion.{All-weaker, All-append}
 use Rattle.kinds.specs.Model.{KindModel, covers}
@@ -23,6 +23,18 @@ module _ {X : Type 0} where
   pub all_right : (P : X → Type 0) (xs ys : List X) → AllByRecursion P (xs ++ ys) → AllByRecursion P ys
   all_right P [] ys h = h
   all_right P (x ∷ xs) ys h = all_right P xs ys h.1
+
+  -- an element at each place up to i, and at each place from i on
+  pub all_first : (P : X → Type 0) (xs : List X) (i : ℕ) → AllWithin P xs 0 i → AllByRecursion P (take i xs)
+  all_first P xs zero h = tt
+  all_first P [] (suc i) h = tt
+  all_first P (x ∷ xs) (suc i) h = (h 0 x (omega arith) (omega arith), all_first P xs i (λ k d l n. h (suc k) d (omega arith) (omega arith)))
+
+  pub all_rest : (P : X → Type 0) (xs : List X) (i : ℕ) → AllWithin P xs i (length xs) → AllByRecursion P (drop i xs)
+  all_rest P [] zero h = tt
+  all_rest P [] (suc i) h = tt
+  all_rest P (x ∷ xs) zero h = (h 0 x (omega arith) (omega arith), all_rest P xs zero (λ k d l n. h (suc k) d (omega arith) (omega arith)))
+  all_rest P (x ∷ xs) (suc i) h = all_rest P xs i (λ k d l n. h (suc k) d (omega arith) (omega arith))
 
   pub belongs_append : (xs ys : List X) (z : X) → Belongs z (xs ++ ys) → Belongs z xs ⊎ Belongs z ys
   belongs_append [] ys z b = inr b

@@ -12,18 +12,15 @@ use Rattle.kinds.specs.Rules.{Rules, Touch}
 use Rattle.kinds.proofs.Numbers.{cases_lt_z}
 use Rattle.kinds.proofs.Having.{Has, has_from, has_to, same_tests}
 use Rattle.kinds.proofs.Standing.{nonempty}
-use Rattle.sheets.specs.Cover.{cover, difference, ahead, canonical}
-use Rattle.sheets.specs.declared.sheet.Sheet.{Sheet}
+use Rattle.sheets.specs.Cover.{cover, ahead, canonical}
 use Rattle.sheets.specs.Census.{Belongs}
 use Rattle.sheets.specs.Finding.{Parted, LeftPart, RightPart}
-use Rattle.sheets.specs.Contents.{items, covered}
 use Rattle.sheets.specs.Finding.{one_listed, listed}
 use Rattle.sheets.proofs.Ahead.{ahead_to, ahead_later, ahead_sooner, gap, past}
 use Rattle.sheets.proofs.Order.{Before, Pairs, pairs_from, pairs_to, pairs_left, pairs_right, pairs_across, pairs_append, all_left, all_right, all_belongs, cover_past}
 use Rattle.sheets.proofs.Unique.{belongs_cover}
 use Rattle.sheets.proofs.Joined.{cover_append, whole_none, Clear, before_rest}
-use Rattle.sheets.proofs.Spliced.{length_with}
-use Rattle.sheets.proofs.Added.{split_rest, Change}
+use Rattle.sheets.proofs.Added.{split_rest}
 
 pub and_true : (b : Bool) → (b && true) ≡ b
 and_true true = refl
@@ -268,12 +265,6 @@ module _ {E A C : Type 0} (m : KindModel E A C) where
     cut_some xs e x y from to lo ro less high first last lp rp f = record {
       reached = f;
       rest = λ h. rest_is e x y lo ro (between from to xs) (ends_between xs from to x y less high first last (middle xs from to f.low h)) f.touch lp rp;
-    }
-
-    pub removed_change : (s : Sheet E) (e : E) (from to : ℕ) (ps : List E) → length ps ≤ to - from + 1 → Cut (items s) e from to ps → Change m r (difference (covered m s) (covers m e)) ps from to s
-    removed_change s e from to ps few f = record {
-      lists = λ k. record { ordered = removed_canonical (items s) e from to f.reached ps k.ordered (f.rest k.ordered); covering = removed_cover (items s) e from to f.reached ps k.ordered (f.rest k.ordered) };
-      longer = (let l = f.reached.low in let h = f.reached.high in omega (arith, length_with (items s) ps from to l h));
     }
 
   pub few_listed : (lo ro : Option E) → length (listed lo ro) ≤ 2

@@ -1,14 +1,13 @@
 -- Two elements, of which one contains the other, and what one leaves of the other.
-use Rattle.std.proofs.Common.{◌≡◌, Bool, true, false, ℤ, Some, None, Decides, Option, sym, ◌∙◌, subst, ⊎_elim, arith}
+use Rattle.std.proofs.Common.{◌≡◌, Bool, ℤ, Some, None, Decides, Option, subst, ⊎_elim, arith}
 use Rattle.std.specs.Int.{int_max, int_min}
-use Rattle.std.proofs.lemmas.Bool.{false≢true}
 use Rattle.std.proofs.lemmas.Int.{ints}
 use Rattle.kinds.specs.Model.{KindModel, covers}
 use Rattle.kinds.specs.Rules.{Rules}
 use Rattle.kinds.specs.Answers.{Parts}
 use Rattle.kinds.proofs.Numbers.{cases_lt_z}
 use Rattle.kinds.proofs.Having.{Contains, contains_covers}
-use Rattle.kinds.proofs.Standing.{nonempty, contains_from, alike}
+use Rattle.kinds.proofs.Standing.{nonempty, contains_from}
 use Rattle.kinds.proofs.Stretching.{slice_carrier, slice_start, slice_end}
 use Rattle.sheets.specs.Maximal.{Part}
 use Rattle.sheets.specs.Finding.{LeftPart, RightPart}
@@ -16,18 +15,6 @@ use Rattle.sheets.specs.Finding.{LeftPart, RightPart}
 module _ {E A C : Type 0} (m : KindModel E A C) (r : Rules m) where
   pub part_decides : (x e : E) (t : Bool) → Decides t (Contains m x e) → Decides t (Part (covers m e) (covers m x))
   part_decides x e t d = (λ h. contains_covers m r.ordered x e (d.0 h), λ h. d.1 (contains_from m r x e h))
-
-  -- what covers the same is the same
-  both : (a b : E) → Contains m a b → Contains m b a → a ≡ b
-  both a b p q =
-      let f = p.from in let g = q.from in let t = p.to in let u = q.to in
-      alike m r a b p.on (omega (arith, ints)) (omega (arith, ints))
-
-  pub same_no : (a b : E) (t : Bool) → Decides t (Part (covers m b) (covers m a)) → t ≡ false → Decides false (a ≡ b)
-  same_no a b t d e = (λ h. absurd (false≢true h), λ h. sym e ∙ d.1 (λ x k. subst (λ z. covers m z x ≡ true) (sym h) k))
-
-  pub same_yes : (a b : E) (s t : Bool) → Decides s (Part (covers m b) (covers m a)) → s ≡ true → Decides t (Part (covers m a) (covers m b)) → Decides t (a ≡ b)
-  same_yes a b s t c e d = (λ h. both a b (contains_from m r a b (c.0 e)) (contains_from m r b a (d.0 h)), λ h. d.1 (λ x k. subst (λ z. covers m z x ≡ true) h k))
 
   pub left_is : (e x : E) (o : Option E) → Parts m x (m.start x) (int_min (m.end x) (m.start e)) o → LeftPart m e x o
   left_is e x None h =

@@ -1,4 +1,5 @@
 pub mod Cover
+pub mod Change
 pub mod Census
 pub mod Maximal
 pub mod Finding

@@ -13,17 +13,7 @@ pub fn place_of<K: Kind>(xs: &[K], e: &K) -> usize
     ensures within { result ≤ length xs.now }
     ensures parted { canonical K.model xs.now ≡ true → Parted (λ x. ahead K.model x e.now) xs.now result }
 {
-    let mut low = 0;
-    let mut high = xs.len();
-    while low < high {
-        let mid = low + (high - low) / 2;
-        if is_ahead(&xs[mid], e) {
-            low = mid + 1;
-        } else {
-            high = mid;
-        }
-    }
-    low
+    xs.partition_point(|x| is_ahead(x, e))
 }
 
 // `e` joined with the elements that it touches, from `from` on, and where they end.
@@ -35,17 +25,13 @@ pub fn gather<K: Kind>(xs: &[K], from: usize, e: K) -> (K, usize)
     ensures ends { (d : K) → result.1 < length xs.now → Touch K.model result.0 (slice_index_or xs.now result.1 d) → ⊥ }
 {
     let mut whole = e;
-    let mut to = from;
-    while to < xs.len() {
-        match whole.join(xs[to]) {
-            Some(joined) => {
-                whole = joined;
-                to += 1;
-            }
-            None => return (whole, to),
+    for (more, x) in xs[from..].iter().enumerate() {
+        match whole.join(*x) {
+            Some(joined) => whole = joined,
+            None => return (whole, from + more),
         }
     }
-    (whole, to)
+    (whole, xs.len())
 }
 
 // Where the elements end that `e` touches, from `from` on.
@@ -56,12 +42,8 @@ pub fn reach<K: Kind>(xs: &[K], from: usize, e: &K) -> usize
     ensures all { AllByRecursion (Touch K.model e.now) (between from result xs.now) }
     ensures ends { (d : K) → result < length xs.now → Touch K.model e.now (slice_index_or xs.now result d) → ⊥ }
 {
-    let mut to = from;
-    while to < xs.len() {
-        if !touches(e, &xs[to]) {
-            return to;
-        }
-        to += 1;
+    match xs[from..].iter().position(|x| !touches(e, x)) {
+        Some(more) => from + more,
+        None => xs.len(),
     }
-    to
 }

@@ -1,15 +1,16 @@
 // One element beside another.
-ghost use Rattle.std.specs.Prelude.{◌≡◌, length, Decides};
+ghost use Rattle.std.specs.Prelude.{◌≡◌, Decides};
 ghost use Rattle.kinds.specs.Model.{covers};
 ghost use Rattle.kinds.specs.Rules.{Touch};
 ghost use Rattle.sheets.specs.Cover.{ahead, size};
 ghost use Rattle.sheets.specs.Maximal.{Part};
-ghost use Rattle.sheets.specs.Finding.{LeftPart, RightPart, listed};
+ghost use Rattle.sheets.specs.Finding.{LeftPart, RightPart};
 
 use kinds::kind::Kind;
 use std::cmp::Ordering;
 
 // Whether `a` stands before `b` and does not touch it.
+#[tactic(auto, unfolding(crate::specs::Cover::ahead))]
 pub fn is_ahead<K: Kind>(a: &K, b: &K) -> bool
     ensures { result ≡ ahead K.model a.now b.now }
 {
@@ -24,30 +25,21 @@ pub fn is_ahead<K: Kind>(a: &K, b: &K) -> bool
 pub fn touches<K: Kind>(a: &K, b: &K) -> bool
     ensures { Decides result (Touch K.model a.now b.now) }
 {
-    match a.compare(b) {
-        Ordering::Equal => a.start() <= b.end() && b.start() <= a.end(),
-        _ => false,
-    }
+    a.compare(b).is_eq() && a.start() <= b.end() && b.start() <= a.end()
 }
 
 // Whether all atoms of `e` are atoms of `x`.
 pub fn contains<K: Kind>(x: &K, e: &K) -> bool
     ensures { Decides result (Part (covers K.model e.now) (covers K.model x.now)) }
 {
-    match x.compare(e) {
-        Ordering::Equal => x.start() <= e.start() && e.end() <= x.end(),
-        _ => false,
-    }
+    x.compare(e).is_eq() && x.start() <= e.start() && e.end() <= x.end()
 }
 
 // Whether two elements are the same.
 pub fn is_same<K: Kind>(a: &K, b: &K) -> bool
     ensures { Decides result (a.now ≡ b.now) }
 {
-    if !contains(a, b) {
-        return false;
-    }
-    contains(b, a)
+    contains(a, b) && contains(b, a)
 }
 
 // What of `x` lies before the start of `e`.
@@ -68,21 +60,5 @@ pub fn right_part<K: Kind>(x: K, e: &K) -> Option<K>
 pub fn extent<K: Kind>(e: &K) -> u64
     ensures { result ≡ size K.model e.now }
 {
-    (e.end() as i64 - e.start() as i64) as u64
-}
-
-// How many of the two there are.
-pub fn how_many<K: Kind>(left: Option<K>, right: Option<K>) -> usize
-    ensures { result ≡ length (listed left right) }
-{
-    match left {
-        Some(_) => match right {
-            Some(_) => 2,
-            None => 1,
-        },
-        None => match right {
-            Some(_) => 1,
-            None => 0,
-        },
-    }
+    u64::from(e.end().abs_diff(e.start()))
 }

@@ -7,11 +7,11 @@ ghost use Rattle.sheets.specs.Cover.{union, difference, sizes};
 ghost use Rattle.sheets.specs.Maximal.{Part, Same, Exactly, Counts};
 ghost use Rattle.sheets.specs.Census.{Census};
 ghost use Rattle.sheets.specs.Contents.{items, room as RoomOf, Sound, covered, Became, Refused, Copied, TooMany};
-ghost use Rattle.sheets.specs.Finding.{listed};
-ghost use Rattle.sheets.specs.Put.{Opened, Shut, Put, NoPut};
+ghost use Rattle.sheets.specs.Put.{Put, NoPut};
 
-use crate::finding::{gather, place_of, reach};
-use crate::pieces::{extent, how_many, is_same, left_part, right_part};
+use crate::listed::{how_many, write};
+use crate::pieces::{extent, is_same};
+use crate::splice::Splice;
 use crate::within::lies_within;
 use kinds::kind::Kind;
 use lattice::refusal::Refusal;
@@ -43,7 +43,7 @@ impl<'a, K: Kind> Sheet<'a, K> {
         ensures maximal { Sound K.model self.now → Exactly K.model (covered K.model self.now) result.now }
     {
         let n = self.count.min(self.slots.len());
-        &self.slots[0..n]
+        &self.slots[..n]
     }
 
     // How many elements there are.
@@ -67,81 +67,23 @@ impl<'a, K: Kind> Sheet<'a, K> {
         self.slots.len() - self.elements().len()
     }
 
-    // The elements from `from` up to `to` give way to `more` places, which are to be written.
-    fn open(&mut self, from: usize, to: usize, more: usize) -> Result<(), Refusal>
-        requires low { from ≤ to }
-        requires high { to ≤ length (items self.old) }
-        ensures cases { MatchResult result (λ _. Opened from to more self.old self.new) (λ e. Shut from to more self.old self.new e) }
+    // A part of the elements gives way to others.
+    fn put(&mut self, part: Splice<K>) -> Result<(), Refusal>
+        requires low { part.from ≤ part.to }
+        requires high { part.to ≤ length (items self.old) }
+        ensures cases { MatchResult result (λ _. Put part self.old self.new) (λ e. NoPut part self.old self.new e) }
         ensures lender { self.new.slots.ghost_name ≡ self.old.slots.ghost_name }
     {
         let n = self.elements().len();
-        let left = n - (to - from);
-        if more > self.slots.len() - left {
+        let others = n - (part.to - part.from);
+        let more = how_many(part.left, part.right);
+        if more > self.slots.len() - others {
             return Err(Refusal::SheetFull);
         }
-        self.slots.copy_within(to..n, from + more);
-        self.count = left + more;
+        self.slots.copy_within(part.to..n, part.from + more);
+        write(&mut self.slots[part.from..], part.left, part.right);
+        self.count = others + more;
         Ok(())
-    }
-
-    // The elements from `from` up to `to` give way to none.
-    fn put_none(&mut self, from: usize, to: usize) -> Result<(), Refusal>
-        requires low { from ≤ to }
-        requires high { to ≤ length (items self.old) }
-        ensures cases { MatchResult result (λ _. Put from to [] self.old self.new) (λ e. NoPut from to [] self.old self.new e) }
-        ensures lender { self.new.slots.ghost_name ≡ self.old.slots.ghost_name }
-    {
-        self.open(from, to, 0)
-    }
-
-    // The elements from `from` up to `to` give way to one.
-    fn put_one(&mut self, from: usize, to: usize, one: K) -> Result<(), Refusal>
-        requires low { from ≤ to }
-        requires high { to ≤ length (items self.old) }
-        ensures cases { MatchResult result (λ _. Put from to (one ∷ []) self.old self.new) (λ e. NoPut from to (one ∷ []) self.old self.new e) }
-        ensures lender { self.new.slots.ghost_name ≡ self.old.slots.ghost_name }
-    {
-        self.open(from, to, 1)?;
-        self.slots[from] = one;
-        Ok(())
-    }
-
-    // The elements from `from` up to `to` give way to two.
-    fn put_two(&mut self, from: usize, to: usize, one: K, two: K) -> Result<(), Refusal>
-        requires low { from ≤ to }
-        requires high { to ≤ length (items self.old) }
-        ensures cases { MatchResult result (λ _. Put from to (one ∷ two ∷ []) self.old self.new) (λ e. NoPut from to (one ∷ two ∷ []) self.old self.new e) }
-        ensures lender { self.new.slots.ghost_name ≡ self.old.slots.ghost_name }
-    {
-        self.open(from, to, 2)?;
-        self.slots[from] = one;
-        self.slots[from + 1] = two;
-        Ok(())
-    }
-
-    // The elements from `from` up to `to` give way to those that there are.
-    fn put(
-        &mut self,
-        from: usize,
-        to: usize,
-        left: Option<K>,
-        right: Option<K>,
-    ) -> Result<(), Refusal>
-        requires low { from ≤ to }
-        requires high { to ≤ length (items self.old) }
-        ensures cases { MatchResult result (λ _. Put from to (listed left right) self.old self.new) (λ e. NoPut from to (listed left right) self.old self.new e) }
-        ensures lender { self.new.slots.ghost_name ≡ self.old.slots.ghost_name }
-    {
-        match left {
-            Some(one) => match right {
-                Some(two) => self.put_two(from, to, one, two),
-                None => self.put_one(from, to, one),
-            },
-            None => match right {
-                Some(two) => self.put_one(from, to, two),
-                None => self.put_none(from, to),
-            },
-        }
     }
 
     // Sum with one element: the sheet covers the atoms of `e` too.
@@ -151,10 +93,7 @@ impl<'a, K: Kind> Sheet<'a, K> {
         ensures taken { OnErr result (length (items self.old) ≡ RoomOf self.old) }
         ensures lender { self.new.slots.ghost_name ≡ self.old.slots.ghost_name }
     {
-        let xs = self.elements();
-        let from = place_of(xs, &e);
-        let (whole, to) = gather(xs, from, e);
-        self.put_one(from, to, whole)
+        self.put(Splice::sum(self.elements(), &e))
     }
 
     // Difference with one element: the sheet covers the atoms of `e` no more.
@@ -164,15 +103,7 @@ impl<'a, K: Kind> Sheet<'a, K> {
         ensures taken { OnErr result (length (items self.old) ≡ RoomOf self.old) }
         ensures lender { self.new.slots.ghost_name ≡ self.old.slots.ghost_name }
     {
-        let xs = self.elements();
-        let from = place_of(xs, &e);
-        let to = reach(xs, from, &e);
-        if from == to {
-            return Ok(());
-        }
-        let left = left_part(xs[from], &e);
-        let right = right_part(xs[to - 1], &e);
-        self.put(from, to, left, right)
+        self.put(Splice::difference(self.elements(), &e))
     }
 
     // How many elements the sheet would have with the atoms of `e`.
@@ -181,10 +112,7 @@ impl<'a, K: Kind> Sheet<'a, K> {
         ensures few { result ≤ length (items self.now) + 1 }
     {
         let xs = self.elements();
-        let from = place_of(xs, e);
-        let (_, to) = gather(xs, from, *e);
-        let others = xs.len() - (to - from);
-        others.saturating_add(1)
+        Splice::sum(xs, e).count(xs.len())
     }
 
     // How many elements the sheet would have without the atoms of `e`.
@@ -193,15 +121,7 @@ impl<'a, K: Kind> Sheet<'a, K> {
         ensures few { result ≤ length (items self.now) + 1 }
     {
         let xs = self.elements();
-        let from = place_of(xs, e);
-        let to = reach(xs, from, e);
-        if from == to {
-            return xs.len();
-        }
-        let left = left_part(xs[from], e);
-        let right = right_part(xs[to - 1], e);
-        let others = xs.len() - (to - from);
-        others.saturating_add(how_many(left, right))
+        Splice::difference(xs, e).count(xs.len())
     }
 
     // Whether the sheet covers all atoms of `e`.
@@ -215,12 +135,7 @@ impl<'a, K: Kind> Sheet<'a, K> {
     pub fn is_part_of(&self, other: &Sheet<K>) -> bool
         ensures { Sound K.model other.now → Decides result (Part (covered K.model self.now) (covered K.model other.now)) }
     {
-        for e in self.elements() {
-            if !other.covers_element(e) {
-                return false;
-            }
-        }
-        true
+        self.elements().iter().all(|e| other.covers_element(e))
     }
 
     // Whether the two sheets cover the same, which is whether they have the same list.
@@ -230,15 +145,7 @@ impl<'a, K: Kind> Sheet<'a, K> {
     {
         let xs = self.elements();
         let ys = other.elements();
-        if xs.len() != ys.len() {
-            return false;
-        }
-        for i in 0..xs.len() {
-            if !is_same(&xs[i], &ys[i]) {
-                return false;
-            }
-        }
-        true
+        xs.len() == ys.len() && xs.iter().zip(ys).all(|(x, y)| is_same(x, y))
     }
 
     // How many atoms the sheet covers. If it is not sound, the sum of its elements' atoms, or the greatest number if that is more.

@@ -12,10 +12,5 @@ use kinds::kind::Kind;
 pub fn lies_within<K: Kind>(e: &K, xs: &[K]) -> bool
     ensures { canonical K.model xs.now ≡ true → Decides result (Part (covers K.model e.now) (cover K.model xs.now)) }
 {
-    let at = place_of(xs, e);
-    if at < xs.len() {
-        contains(&xs[at], e)
-    } else {
-        false
-    }
+    xs.get(place_of(xs, e)).is_some_and(|x| contains(x, e))
 }

@@ -1,13 +1,22 @@
-use Rattle.std.proofs.Common.{◌≡◌, ℕ, ◌+◌, ◌<◌, ◌≤◌, List, [], ◌∷◌, ◌++◌, length, get_or, sym, ap, ◌∙◌, subst, arith}
-use Rattle.std.specs.List.{between, AllByRecursion}
-use Rattle.std.proofs.lemmas.List.Edits.{between_more}
-use Rattle.std.proofs.ByRecursion.{All-push}
+use Rattle.std.proofs.Common.{MatchOption, ◌<◌, length, subst, rules, tests}
+use Rattle.std.specs.List.{AllByRecursion, AllWithin, HoldsAt, between}
+use Rattle.std.proofs.lemmas.List.Elements.{All-from_all_within, recursion_from_All}
+use Rattle.std.proofs.lemmas.Iterator.{IsFirst-from_position, YieldsList-from_slice}
+use Rattle.std.proofs.option.Match.{if_some}
+use Rattle.kinds.specs.Rules.{Touch}
+use Rattle.sheets.proofs.Order.{all_first}
+use Rattle.sheets.proofs.Spliced.{first_of}
 use Rattle.sheets.proofs.finding.reach.Goals as goal
 
-step : {E : Type 0} (P : E → Type 0) (xs : List E) (from to : ℕ) (x : E) → from ≤ to → to < length xs → x ≡ get_or xs to x → AllByRecursion P (between from to xs) → P x → AllByRecursion P (between from (to + 1) xs)
-step P xs from to x low h is k t =
-    let more : between from (to + 1) xs ≡ between from to xs ++ x ∷ [] = between_more xs from to x low h ∙ ap (λ y. between from to xs ++ y ∷ []) (sym is) in
-    subst (AllByRecursion P) (sym more) (All-push P (between from to xs) x k t)
+pub returns-in-Some-clause-all : goal.returns-in-Some-clause-all
+returns-in-Some-clause-all g c =
+    let Touched = Touch g.K.Kind.model c.args.e.now in
+    let first = if_some _ _ _ c.in-Some.is (IsFirst-from_position _ _ _ (λ x. Touched x → ⊥) Touched c.position.ensures.ran (YieldsList-from_slice _ c.iter.ensures.rest) (λ x q k. search (rules, tests)) (λ x q k. search (rules, tests))) in
+    subst (AllByRecursion Touched) (first_of c.args.xs.now c.args.from c.in-Some.more (search rules)) (all_first Touched _ c.in-Some.more first.2)
 
-pub loop-to-preserved : goal.loop-to-preserved
-loop-to-preserved g c = (omega arith, omega arith, step _ c.args.xs.now _ _ c.index-xs-to.result c.loop-to.invariant.0 c.loop-to-test.true c.index-xs-to.is c.loop-to.invariant.2 (c.touches.ensures.0 c.if-not-touches.false))
+pub returns-in-None-clause-all : goal.returns-in-None-clause-all
+returns-in-None-clause-all g c =
+    let Touched = Touch g.K.Kind.model c.args.e.now in
+    let all = between c.args.from (length c.args.xs.now) c.args.xs.now in
+    let none : AllWithin Touched all 0 (length all) = subst (λ o. MatchOption o (AllWithin Touched all 0 (length all)) (λ i. (i < length all) × HoldsAt (λ x. Touched x → ⊥) all i × AllWithin Touched all 0 i)) c.in-None.is (IsFirst-from_position _ _ _ (λ x. Touched x → ⊥) Touched c.position.ensures.ran (YieldsList-from_slice _ c.iter.ensures.rest) (λ x q k. search (rules, tests)) (λ x q k. search (rules, tests))) in
+    recursion_from_All Touched _ (All-from_all_within Touched _ none)

@@ -1,13 +1,9 @@
-use Rattle.std.proofs.Common.{length, ap, rules}
+use Rattle.std.proofs.Common.{rules}
 use Rattle.std.proofs.lemmas.Result.{err_from_is_err_and}
-use Rattle.sheets.proofs.Slotted.{slots_became, slots_stayed}
+use Rattle.sheets.proofs.Slotted.{slots_stayed}
 use Rattle.sheets.proofs.slots.sum_into.Goals as goal
 
 pub returns-in_err-add : goal.returns-in_err-add
 returns-in_err-add g c =
     let p = err_from_is_err_and c.from_residual.result c.from_residual.ensures.1 in
     rw (p.1, p.2) (slots_stayed g.K.Kind.model _ _ _ c.add.new.self _ (search rules) c.in_err-add.ensures.cases)
-
-pub returns : goal.returns
-returns g c =
-    slots_became g.K.Kind.model _ _ _ c.add.new.self _ (search rules) (ap length c.elements.ensures.value) c.in_ok-add.ensures.cases
