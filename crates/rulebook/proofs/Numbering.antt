@@ -1,5 +1,7 @@
 -- The kept records by their numbers.
-use Rattle.std.proofs.Common.{◌≡◌, ℕ, zero, suc, ◌-◌, ◌<◌, ◌≤◌, min, List, [], ◌∷◌, map, length, get_or, take, Some, None, Option, sym, refl, ap, ◌∙◌, arith, MatchOption}
+use Rattle.std.proofs.Common.{◌≡◌, ℕ, zero, suc, ◌-◌, ◌<◌, ◌≤◌, min, List, [], ◌∷◌, map, length, get_or, take, Some, None, Option, Bor, sym, refl, ap, ◌∙◌, subst, arith, MatchOption}
+use Rattle.std.specs.List.{HoldsAt}
+use Rattle.std.specs.Option.{option_copied}
 use Rattle.std.proofs.lemmas.List.{length-take, get_or-take}
 use Rattle.grammar.specs.Numbers.{nth}
 use Rattle.grammar.proofs.Numbers.{nth_zero}
@@ -38,6 +40,15 @@ module _ {X : Type 0} where
       let less : r < c = omega arith in
       let e : suc r - 1 ≡ r = omega arith in
       nth_index (take c xs) r d (omega arith) ∙ ap Some (get_or-take c xs r d less) ∙ ap (λ (i : ℕ). Some (get_or xs i d)) (sym e)
+
+  -- what a lookup one place lower gives
+  pub some_at : (xs : List X) (c r i : ℕ) (g : Option (Bor X)) (o : Option X) → 1 ≤ r → i ≡ r - 1 → r ≤ c
+      → MatchOption g (length xs ≤ i) (λ x. (i < length xs) × HoldsAt (λ y. x.now ≡ y) xs i) → o ≡ option_copied g
+      → MatchOption o (NoNumber xs c r) (λ y. HasNumber xs c r y)
+  some_at xs c r i None o h e k m q = subst (λ (z : Option X). MatchOption z (NoNumber xs c r) (λ y. HasNumber xs c r y)) (sym q) (none_past xs c r (omega arith))
+  some_at xs c r i (Some x) o h e k m q =
+      subst (λ (z : Option X). MatchOption z (NoNumber xs c r) (λ y. HasNumber xs c r y)) (sym q)
+      (some_within xs c r x.now (λ z. omega arith) k (let l = m.0 in omega arith) ∙ ap (λ (j : ℕ). Some (get_or xs j x.now)) (sym e) ∙ ap Some (sym (m.1 x.now)))
 
 module _ {EM EC : Type 0} (b : Rulebook EM EC) where
   pub found : (r n : ℕ) (x : Option RuleRecord) → n ≡ r → MatchOption x (NoNumber b.records b.count n) (λ y. HasNumber b.records b.count n y) → Finds b r x

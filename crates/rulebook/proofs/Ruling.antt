@@ -1,12 +1,12 @@
 -- The calls on a rulebook, from what they do to its records and tables.
-use Rattle.std.proofs.Common.{◌≡◌, ℕ, ◌+◌, ◌<◌, ◌≤◌, List, [], ◌∷◌, ◌++◌, map, length, get_or, take, set, sym, refl, ap, ◌∙◌, subst, arith}
+use Rattle.std.proofs.Common.{◌≡◌, ℕ, ◌+◌, ◌<◌, ◌≤◌, List, [], ◌∷◌, ◌++◌, map, length, get_or, take, set, Ok, Err, Result, sym, refl, ap, ◌∙◌, subst, inr, arith, MatchResult}
 use mathlib.Core.List.{map-append}
-use Rattle.std.proofs.lemmas.List.{length-take, length-map, length-set}
+use Rattle.std.proofs.lemmas.List.{length-take, length-map, length-set, set-get_or}
 use Rattle.lattice.specs.declared.refusal.Refusal.{Refusal}
 use Rattle.kinds.specs.Model.{KindModel}
 use Rattle.grammar.specs.Rules.{Side, Rule}
 use Rattle.lattice.specs.Refusals.{number}
-use Rattle.rulebook.specs.Growing.{latest_record, Closed, SideGrew, TableStayed, Widens, LatestGrew, Grown, Added, left_side, right_side, with_left, with_right, Full}
+use Rattle.rulebook.specs.Growing.{latest_record, Closed, SideGrew, TableStayed, Widens, LatestGrew, Grown, Added, left_side, right_side, with_left, with_right, Full, NotGrown}
 use Rattle.rulebook.specs.Rulebooks.{side_of, rule_of, rules_of, kept, bare, KeptSide, Kept}
 use Rattle.rulebook.specs.declared.records.RuleRecord.{RuleRecord}
 use Rattle.rulebook.specs.declared.records.SideRecord.{SideRecord}
@@ -34,6 +34,8 @@ module _ {EM AM CM EC Ac CC : Type 0} (M : KindModel EM AM CM) (C : KindModel EC
     pub rules : (b : Rulebook EM EC) → rule_of b ≡ rule_at M C this that build (mine b) (other b)
     pub taken : (b : Rulebook EM EC) → Kept M C b → KeptSide M C (map this (kept b)) (mine b)
     pub left : (b : Rulebook EM EC) → Kept M C b → KeptSide M C (map that (kept b)) (other b)
+    pub one : (x y : RuleRecord) → this x ≡ this y → that x ≡ that y → x ≡ y
+    pub same : (b c : Rulebook EM EC) → b.records ≡ c.records → b.count ≡ c.count → mine b ≡ mine c → other b ≡ other c → b ≡ c
     pub makes : (b : Rulebook EM EC) → b.count ≤ 32 → length b.records ≡ 32 → KeptSide M C (map this (kept b)) (mine b) → KeptSide M C (map that (kept b)) (other b) → Kept M C b
 
   abbrev pub left_half : Half
@@ -50,6 +52,8 @@ module _ {EM AM CM EC Ac CC : Type 0} (M : KindModel EM AM CM) (C : KindModel EC
     rules = λ b. refl;
     taken = λ b k. k.left;
     left = λ b k. k.right;
+    one = λ x y p q i. record { left = p i; right = q i };
+    same = λ b c r n p q i. record { records = r i; count = n i; left = p i; right = q i };
     makes = λ b f n p q. record { few = f; slots = n; left = p; right = q };
   }
 
@@ -67,6 +71,8 @@ module _ {EM AM CM EC Ac CC : Type 0} (M : KindModel EM AM CM) (C : KindModel EC
     rules = λ b. refl;
     taken = λ b k. k.right;
     left = λ b k. k.left;
+    one = λ x y p q i. record { left = q i; right = p i };
+    same = λ b c r n p q i. record { records = r i; count = n i; left = q i; right = p i };
     makes = λ b f n p q. record { few = f; slots = n; left = q; right = p };
   }
 
@@ -96,10 +102,10 @@ module _ {EM AM CM EC Ac CC : Type 0} (M : KindModel EM AM CM) (C : KindModel EC
     mine_parted : (b c : Rulebook EM EC) (i : ℕ) (x y : RuleRecord) → Rewritten b c i x y → Kept M C b → KeptSide M C (map H.this (take i b.records ++ (x ∷ []))) (H.mine b)
     mine_parted b c i x y h k = subst (λ (xs : List RuleRecord). KeptSide M C (map H.this xs) (H.mine b)) (kept_was b c i x y h) (H.taken b k)
 
-    abbrev Result : Stroke EM EC → Rulebook EM EC → Rulebook EM EC → ℕ → RuleRecord → Type 0
-    Result stroke b c i x = SideResult M C stroke (map H.this (take i b.records)) (H.this x) (H.mine b) (H.mine c)
+    abbrev Wider : Stroke EM EC → Rulebook EM EC → Rulebook EM EC → ℕ → RuleRecord → Type 0
+    Wider stroke b c i x = SideResult M C stroke (map H.this (take i b.records)) (H.this x) (H.mine b) (H.mine c)
 
-    keeps : (stroke : Stroke EM EC) (b c : Rulebook EM EC) (i : ℕ) (x y : RuleRecord) → Rewritten b c i x y → Kept M C b → Result stroke b c i x → Kept M C c
+    keeps : (stroke : Stroke EM EC) (b c : Rulebook EM EC) (i : ℕ) (x y : RuleRecord) → Rewritten b c i x y → Kept M C b → Wider stroke b c i x → Kept M C c
     keeps stroke b c i x y h k q =
         let is = kept_is b c i x y h in
         let f = k.few in
@@ -116,7 +122,7 @@ module _ {EM AM CM EC Ac CC : Type 0} (M : KindModel EM AM CM) (C : KindModel EC
         ap (map (rule_of b)) (kept_was b c i x y h) ∙ map-append (rule_of b) (take i b.records) (x ∷ []) ∙
         ap (λ (f : RuleRecord → Rule EM EC). map (rule_of b) (take i b.records) ++ (f x ∷ [])) (H.rules b)
 
-    rules_are : (stroke : Stroke EM EC) (b c : Rulebook EM EC) (i : ℕ) (x y : RuleRecord) → Rewritten b c i x y → Result stroke b c i x → rules_of c ≡ map (rule_of b) (take i b.records) ++ (H.build (side_of (H.mine c) (latest_record (H.mine c))) (side_of (H.other b) (H.that x)) ∷ [])
+    rules_are : (stroke : Stroke EM EC) (b c : Rulebook EM EC) (i : ℕ) (x y : RuleRecord) → Rewritten b c i x y → Wider stroke b c i x → rules_of c ≡ map (rule_of b) (take i b.records) ++ (H.build (side_of (H.mine c) (latest_record (H.mine c))) (side_of (H.other b) (H.that x)) ∷ [])
     rules_are stroke b c i x y h q =
         let rs = take i b.records in
         ap (map (rule_of c)) (kept_is b c i x y h) ∙ map-append (rule_of c) rs (y ∷ []) ∙
@@ -129,10 +135,10 @@ module _ {EM AM CM EC Ac CC : Type 0} (M : KindModel EM AM CM) (C : KindModel EC
     -- a side of the latest rule grew
     pub grown : (stroke : Stroke EM EC) (b c : Rulebook EM EC) (i : ℕ) (x y : RuleRecord) → Rewritten b c i x y → SideGrew M C stroke (H.mine b) (H.mine c) → Grown M C H.read H.with stroke b c
     grown stroke b c i x y h g = record { rules = λ k. grew (result k); kept = λ k. keeps stroke b c i x y h k (result k) } where
-      result : Kept M C b → Result stroke b c i x
+      result : Kept M C b → Wider stroke b c i x
       result k = side_grown M C stroke (map H.this (take i b.records)) (H.this x) (H.mine b) (H.mine c) (parted_side M C H.this H.that H.build (take i b.records) x (H.mine b) (mine_parted b c i x y h k)) g
 
-      grew : Result stroke b c i x → LatestGrew M C H.read H.with stroke b c
+      grew : Wider stroke b c i x → LatestGrew M C H.read H.with stroke b c
       grew q =
           let old = side_of (H.mine b) (H.this x) in
           let new = side_of (H.mine c) (latest_record (H.mine c)) in
@@ -160,6 +166,18 @@ module _ {EM AM CM EC Ac CC : Type 0} (M : KindModel EM AM CM) (C : KindModel EC
             overflows = o.1;
           },
         )
+
+    -- the side of the latest rule was to grow, and did or did not
+    pub latest_grows : (stroke : Stroke EM EC) (res : Result (Unit {0}) Refusal) (b c : Rulebook EM EC) (i : ℕ) (x y d : RuleRecord)
+        → b.count ≡ i + 1 → i < 32 → x ≡ get_or b.records i d → i < length b.records → c.records ≡ set b.records i y → H.that y ≡ H.that x → c.count ≡ b.count → H.other c ≡ H.other b
+        → MatchResult res (λ _. SideGrew M C stroke (H.mine b) (H.mine c) × (H.this y ≡ latest_record (H.mine c))) (λ why. (H.mine c ≡ H.mine b) × (H.this y ≡ H.this x) × TableStayed M C stroke why (H.mine b) (H.mine c))
+        → MatchResult res (λ _. Grown M C H.read H.with stroke b c) (λ why. NotGrown M C H.read (H.mine b) stroke why b c)
+    latest_grows stroke (Ok v) b c i x y d last few was within is that count other h =
+        grown stroke b c i x y (record { last = last; within = within; default = d; was = was; is = is; this = h.1; that = that; count = count; other = other }) h.0
+    latest_grows stroke (Err why) b c i x y d last few was within is that count other h = record {
+      same = H.same c b (is ∙ ap (set b.records i) (H.one y x h.1 that ∙ was) ∙ set-get_or b.records i d) count h.0 other;
+      cause = λ k. inr (full stroke why b i x d (H.mine c) last within was h.2 k);
+    }
 
   -- a rule was added behind the others
   pub record Appended (b c : Rulebook EM EC) (y : RuleRecord) : Type 0 where

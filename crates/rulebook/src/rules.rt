@@ -1,5 +1,5 @@
 // Rules are added, and their sides grow, element by element.
-ghost use Rattle.std.specs.Prelude.{◌≡◌, ◌≤◌, [], length, MatchOption, MatchResult};
+ghost use Rattle.std.specs.Prelude.{◌≡◌, ◌+◌, ◌<◌, ◌≤◌, ◌⊎◌, [], length, MatchOption, MatchResult};
 ghost use Rattle.lattice.specs.Refusals.{number as Number};
 ghost use Rattle.rulebook.specs.Growing.{latest_record as LatestRecord, Closed, SideGrew, TableStayed, Added, NotAdded, Grown, NotGrown, left_side, right_side, with_left, with_right};
 ghost use Rattle.grammar.specs.Numbers.{ordinal as Ordinal};
@@ -9,6 +9,7 @@ use crate::records::{RuleRecord, SideRecord};
 use crate::rulebook::{Rulebook, SideTables};
 use crate::stroke::Stroke;
 use crate::table::{Stretch, Table};
+use grammar::ordinal::ordinal;
 use kinds::kind::Kind;
 use lattice::refusal::Refusal;
 
@@ -56,6 +57,19 @@ impl<'a, M: Kind, C: Kind> SideTables<'a, M, C> {
     }
 }
 
+// The latest rule's side, of which this is the record, becomes its sum with one element.
+fn grow<M: Kind, C: Kind>(
+    tables: &mut SideTables<M, C>,
+    side: &mut SideRecord,
+    stroke: Stroke<M, C>,
+) -> Result<(), Refusal>
+    ensures { MatchResult result (λ _. SideGrew M.Kind.model C.Kind.model stroke tables.old tables.new × (side.new ≡ LatestRecord tables.new)) (λ why. (tables.new ≡ tables.old) × (side.new ≡ side.old) × TableStayed M.Kind.model C.Kind.model stroke why tables.old tables.new) }
+{
+    tables.sum(stroke)?;
+    *side = tables.record();
+    Ok(())
+}
+
 impl<'a, M: Kind, C: Kind> Rulebook<'a, M, C> {
     // No rule, and tables for the sides of all.
     pub fn new(left: SideTables<'a, M, C>, right: SideTables<'a, M, C>) -> Rulebook<'a, M, C>
@@ -94,41 +108,40 @@ impl<'a, M: Kind, C: Kind> Rulebook<'a, M, C> {
         Ok(())
     }
 
-    // The left side of the latest rule becomes its sum with one element.
-    pub fn left(&mut self, stroke: Stroke<M, C>) -> Result<(), Refusal>
-        ensures { MatchResult result (λ _. Grown M.Kind.model C.Kind.model left_side with_left stroke self.old self.new) (λ why. NotGrown M.Kind.model C.Kind.model left_side self.old.left stroke why self.old self.new) }
+    // Where the latest rule's record lies.
+    fn latest(&self) -> Result<usize, Refusal>
+        ensures { MatchResult result (λ at. (self.now.count ≡ at + 1) × (at < 32)) (λ why. (Number why ≡ 9) × ((self.now.count ≡ 0) ⊎ (32 < self.now.count))) }
     {
         let n = self.count;
         if n == 0 || n > MOST_RULES {
             return Err(Refusal::NoRuleYet);
         }
-        self.left.sum(stroke)?;
-        let side = self.left.record();
-        let latest = &mut self.records[n - 1];
-        latest.left = side;
-        Ok(())
+        Ok(n - 1)
+    }
+
+    // The left side of the latest rule becomes its sum with one element.
+    pub fn left(&mut self, stroke: Stroke<M, C>) -> Result<(), Refusal>
+        ensures { MatchResult result (λ _. Grown M.Kind.model C.Kind.model left_side with_left stroke self.old self.new) (λ why. NotGrown M.Kind.model C.Kind.model left_side self.old.left stroke why self.old self.new) }
+    {
+        let at = self.latest()?;
+        let latest = &mut self.records[at];
+        grow(&mut self.left, &mut latest.left, stroke)
     }
 
     // The right side of the latest rule becomes its sum with one element.
     pub fn right(&mut self, stroke: Stroke<M, C>) -> Result<(), Refusal>
         ensures { MatchResult result (λ _. Grown M.Kind.model C.Kind.model right_side with_right stroke self.old self.new) (λ why. NotGrown M.Kind.model C.Kind.model right_side self.old.right stroke why self.old self.new) }
     {
-        let n = self.count;
-        if n == 0 || n > MOST_RULES {
-            return Err(Refusal::NoRuleYet);
-        }
-        self.right.sum(stroke)?;
-        let side = self.right.record();
-        let latest = &mut self.records[n - 1];
-        latest.right = side;
-        Ok(())
+        let at = self.latest()?;
+        let latest = &mut self.records[at];
+        grow(&mut self.right, &mut latest.right, stroke)
     }
 
     // Rule number `r`, counted from 1.
     pub fn find(&self, r: i32) -> Option<RuleRecord>
         ensures { Finds self.now (Ordinal r) result }
     {
-        record_at(&self.records, self.count, counted_from_one(r))
+        record_at(&self.records, self.count, ordinal(r) as usize)
     }
 
     // The marks of a rule's left side.
@@ -160,25 +173,12 @@ impl<'a, M: Kind, C: Kind> Rulebook<'a, M, C> {
     }
 }
 
-// A number as it is called for: below 1 it is 0, which no rule has.
-fn counted_from_one(r: i32) -> usize
-    ensures { result ≡ Ordinal r }
-{
-    if r < 0 { 0 } else { r as usize }
-}
-
 // Number `n` of the first `count` records, if there is one.
 fn record_at(all: &[RuleRecord], count: usize, n: usize) -> Option<RuleRecord>
     ensures { MatchOption result (NoNumber all.now count n) (λ y. HasNumber all.now count n y) }
 {
-    if n == 0 {
-        return None;
-    }
     if n > count {
         return None;
     }
-    if n > all.len() {
-        return None;
-    }
-    Some(all[n - 1])
+    all.get(n.checked_sub(1)?).copied()
 }

@@ -10,7 +10,7 @@ use sheets::sheet::MOST_SLOTS;
 use sheets::slots::sum_into;
 
 // The slots from `from` up to `to`.
-#[derive(Clone, Copy)]
+#[derive(Clone, Copy, PartialEq, Eq, Debug)]
 pub struct Stretch {
     pub from: usize,
     pub to: usize,
@@ -74,12 +74,8 @@ impl<'a, K: Kind> Table<'a, K> {
     {
         let from = self.from.min(self.slots.len());
         let count = self.used.saturating_sub(from);
-        match sum_into(&mut self.slots[from..], count, e) {
-            Ok(n) => {
-                self.used = from + n;
-                Ok(())
-            }
-            Err(why) => Err(why),
-        }
+        let n = sum_into(&mut self.slots[from..], count, e)?;
+        self.used = from + n;
+        Ok(())
     }
 }

@@ -5,4 +5,4 @@ use Rattle.rulebook.proofs.rulebook.Rulebook.find.Goals as goal
 
 pub returns : goal.returns
 returns g c =
-    found c.args.self.now (ordinal c.args.r) c.counted_from_one.result c.record_at.result (c.counted_from_one.ensures ∙ ap ordinal (to_z-of_z c.ranges.r)) c.record_at.ensures
+    found c.args.self.now (ordinal c.args.r) c.ordinal.result c.record_at.result (c.ordinal.ensures ∙ ap ordinal (to_z-of_z c.ranges.r)) c.record_at.ensures
