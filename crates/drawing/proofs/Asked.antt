@@ -1,10 +1,11 @@
 -- What is asked of a drawing is answered by the list of places.
 use Rattle.std.proofs.Common.{◌≡◌, ℕ, ◌<◌, ◌≤◌, Bool, true, ◌||◌, ◌⊎◌, List, [], ◌∷◌, ◌++◌, length, drop, ℤ, Some, None, Ok, Err, Option, Result, sym, refl, ap, ◌∙◌, subst, inl, inr, arith, MatchResult}
+use Rattle.std.specs.Option.{ok_or}
 use Rattle.lattice.specs.Order.{Triple}
 use Rattle.lattice.specs.Refusals.{number}
 use Rattle.lattice.specs.declared.placement.Placement.{Placement}
 use Rattle.lattice.specs.declared.refusal.Refusal.{Refusal}
-use Rattle.lattice.specs.declared.refusal.Refusal.TheVariants.{NoSuchRule, EmptyLeft as EmptyLeftSide}
+use Rattle.lattice.specs.declared.refusal.Refusal.TheVariants.{NoSuchRule, NoSuchPlace, EmptyLeft as EmptyLeftSide}
 use Rattle.kinds.specs.Model.{KindModel}
 use Rattle.kinds.specs.Rules.{Rules}
 use Rattle.sheets.specs.Cover.{cover, canonical}
@@ -107,11 +108,19 @@ module _ {EM AM CM EC Ac CC : Type 0} (M : KindModel EM AM CM) (C : KindModel EC
     }
 
     -- a place that the search found
-    pub place_found : (n : ℤ) (p : Placement) → ((ps : List Placement) → Searched M C s ps → Some p ≡ nth ps (ordinal n)) → (t : Setting EM EC) (es : List (Event EM EC)) → Lived M C t es d → Listing M C d (ordinal r) (ordinal n) p
+    place_found : (n : ℤ) (p : Placement) → ((ps : List Placement) → Searched M C s ps → Some p ≡ nth ps (ordinal n)) → (t : Setting EM EC) (es : List (Event EM EC)) → Lived M C t es d → Listing M C d (ordinal r) (ordinal n) p
     place_found n p h t es v = (places, sym (h places.places (searched (alive M C RM RC t es d v))))
 
-    pub place_missing : (n : ℤ) → ((ps : List Placement) → Searched M C s ps → None ≡ nth ps (ordinal n)) → Goes M C d (pick r n) (refused 15) d
+    place_missing : (n : ℤ) → ((ps : List Placement) → Searched M C s ps → None ≡ nth ps (ordinal n)) → Goes M C d (pick r n) (refused 15) d
     place_missing n h = stays_by M C RM RC d (pick r n) (refused 15) (λ l. (inr (found, inr (not_empty, inl ((places, sym (h places.places (searched l))), refl))), refl))
+
+    abbrev Told : ℤ → Result Placement Refusal → Type 0
+    Told n res = MatchResult res (λ p. (t : Setting EM EC) (es : List (Event EM EC)) → Lived M C t es d → Listing M C d (ordinal r) (ordinal n) p) (λ why. Goes M C d (pick r n) (refused (number why)) d)
+
+    -- the number as it is called for, and as the code has it
+    pub place_told : (n z : ℤ) → z ≡ n → (o : Option Placement) (res : Result Placement Refusal) → ((ps : List Placement) → Searched M C s ps → o ≡ nth ps (ordinal z)) → res ≡ ok_or o NoSuchPlace → Told n res
+    place_told n z e None res h q = subst (Told n) (sym q) (place_missing n (λ ps k. h ps k ∙ ap (λ (x : ℤ). nth ps (ordinal x)) e))
+    place_told n z e (Some p) res h q = subst (Told n) (sym q) (place_found n p (λ ps k. h ps k ∙ ap (λ (x : ℤ). nth ps (ordinal x)) e))
 
     pub count_done : (n : ℕ) → ((ps : List Placement) → Searched M C s ps → n ≡ length ps) → Goes M C d (count r) (counted n) d
     count_done n h = stays_by M C RM RC d (count r) (counted n) (λ l. ((found, (not_empty, tt)), (places, ap counted (h places.places (searched l)), refl)))

@@ -1,15 +1,13 @@
 -- Elements that stay in the field when they are placed.
-use Rattle.std.proofs.Common.{◌≡◌, ℕ, ◌+◌, ◌<◌, ◌≤◌, Bool, true, false, ◌&&◌, ◌||◌, ◌⊎◌, List, [], ◌∷◌, ◌++◌, length, get_or, take, drop, is_some, Some, None, Option, sym, refl, ap, ◌∙◌, inl, inr, arith}
-use Rattle.std.proofs.lemmas.List.{take_all, take_more, take-append-drop}
+use Rattle.std.proofs.Common.{◌≡◌, ℕ, zero, suc, ◌<◌, Bool, true, false, ◌&&◌, ◌||◌, ◌⊎◌, List, [], ◌∷◌, length, is_some, Some, None, Option, sym, refl, ap, ◌∙◌, inl, inr, arith}
+use Rattle.std.specs.Bool.{MatchBool}
+use Rattle.std.specs.List.{AllByRecursion, AllWithin, HoldsAt}
+use Rattle.std.proofs.lemmas.List.Elements.{All-from_all_within, recursion_from_All}
 use Rattle.lattice.specs.declared.placement.Placement.{Placement}
 use Rattle.kinds.specs.Model.{KindModel, covers, moved}
 use Rattle.kinds.specs.Rules.{Rules}
 use Rattle.sheets.specs.Cover.{cover}
 use Rattle.drawing.specs.Changes.{stays}
-
-and_assoc : (x y z : Bool) → ((x && y) && z) ≡ (x && (y && z))
-and_assoc true y z = refl
-and_assoc false y z = refl
 
 and_false : (x : Bool) → (x && false) ≡ false
 and_false true = refl
@@ -28,24 +26,19 @@ or_right true y h = refl
 or_right false y h = h
 
 module _ {E A C : Type 0} (m : KindModel E A C) where
-  stays_append : (p : Placement) (xs ys : List E) → stays m p (xs ++ ys) ≡ (stays m p xs && stays m p ys)
-  stays_append p [] ys = refl
-  stays_append p (x ∷ xs) ys = ap (λ (b : Bool). is_some (m.place p x) && b) (stays_append p xs ys) ∙ sym (and_assoc (is_some (m.place p x)) (stays m p xs) (stays m p ys))
+  pub all_stay : (p : Placement) (xs : List E) → AllByRecursion (λ x. is_some (m.place p x) ≡ true) xs → true ≡ stays m p xs
+  all_stay p [] a = refl
+  all_stay p (x ∷ xs) a = all_stay p xs a.1 ∙ ap (λ (b : Bool). b && stays m p xs) (sym a.0)
 
-  module _ (p : Placement) (xs : List E) (i : ℕ) (x : E) (l : i < length xs) (is : x ≡ get_or xs i x) where
-    more : take (i + 1) xs ≡ take i xs ++ x ∷ []
-    more = take_more xs i x l ∙ ap (λ (z : E). take i xs ++ z ∷ []) (sym is)
+  pub one_leaves : (p : Placement) (xs : List E) (k : ℕ) → k < length xs → HoldsAt (λ x. is_some (m.place p x) ≡ false) xs k → false ≡ stays m p xs
+  one_leaves p [] k l h = absurd (omega arith)
+  one_leaves p (x ∷ xs) zero l h = ap (λ (b : Bool). b && stays m p xs) (sym (h x))
+  one_leaves p (x ∷ xs) (suc k) l h = sym (ap (λ (b : Bool). is_some (m.place p x) && b) (sym (one_leaves p xs k (omega arith) h)) ∙ and_false (is_some (m.place p x)))
 
-    pub stays_more : (e : E) → stays m p (take i xs) ≡ true → Some e ≡ m.place p x → stays m p (take (i + 1) xs) ≡ true
-    stays_more e h q = ap (stays m p) more ∙ stays_append p (take i xs) (x ∷ []) ∙ ap (λ (b : Bool). b && (is_some (m.place p x) && true)) h ∙ ap (λ (o : Option E). is_some o && true) (sym q)
-
-    pub stays_not : None ≡ m.place p x → stays m p xs ≡ false
-    stays_not q =
-        ap (stays m p) (sym (take-append-drop (i + 1) xs)) ∙ stays_append p (take (i + 1) xs) (drop (i + 1) xs)
-        ∙ ap (λ (b : Bool). b && stays m p (drop (i + 1) xs)) (ap (stays m p) more ∙ stays_append p (take i xs) (x ∷ []) ∙ ap (λ (o : Option E). stays m p (take i xs) && (is_some o && true)) (sym q) ∙ and_false (stays m p (take i xs)))
-
-  pub stays_all : (p : Placement) (xs : List E) (i : ℕ) → length xs ≤ i → stays m p (take i xs) ≡ true → true ≡ stays m p xs
-  stays_all p xs i h k = sym (sym (ap (stays m p) (take_all i xs h)) ∙ k)
+  -- an answer that is true where all stay, and false where one leaves
+  pub stays_told : (p : Placement) (xs : List E) (r : Bool) → MatchBool r (AllWithin (λ x. is_some (m.place p x) ≡ true) xs 0 (length xs)) ((k : ℕ) × (k < length xs) × HoldsAt (λ x. is_some (m.place p x) ≡ false) xs k) → r ≡ stays m p xs
+  stays_told p xs true h = all_stay p xs (recursion_from_All _ xs (All-from_all_within (λ x. is_some (m.place p x) ≡ true) xs h))
+  stays_told p xs false h = one_leaves p xs h.0 h.1 h.2
 
   none_not : {o : Option E} → o ≡ None → is_some o ≡ true → ⊥
   none_not {o = o} e h = let z : true ≡ false = sym h ∙ ap is_some e in let w : ◌≡◌ {A = ℕ} 0 1 = cc in omega arith

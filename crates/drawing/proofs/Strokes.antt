@@ -10,15 +10,17 @@ use Rattle.sheets.specs.declared.sheet.Sheet.{Sheet}
 use Rattle.sheets.proofs.Added.{refused_any}
 use Rattle.sheets.proofs.Joined.{or_none}
 use Rattle.sheets.proofs.Unique.{one_list}
-use Rattle.grammar.specs.Calls.{Call, Stroke, stroke, draw_mark, rub_mark, draw_cut, rub_cut, done, refused}
+use Rattle.grammar.specs.Calls.{Stroke, stroke, done, refused}
 use Rattle.grammar.specs.Record.{stroked, stepped}
 use Rattle.grammar.specs.Refusals.{Stepped, SheetFull}
 use Rattle.grammar.specs.Sets.{Sets}
 use Rattle.grammar.specs.State.{covered, started}
-use Rattle.drawing.specs.Changes.{plus, minus, Both, Neither}
+use Rattle.sheets.specs.Change.{plus, minus}
+use Rattle.drawing.specs.Changes.{Both, Neither}
+use Rattle.drawing.specs.Strikes.{Strikes}
 use Rattle.rulebook.specs.declared.stroke.Stroke.{Stroke as Struck}
 use Rattle.rulebook.specs.declared.stroke.Stroke.TheVariants.{Mark, Cut}
-use Rattle.drawing.specs.View.{step_of, taken, state, setting, Goes, answer, drawing_call, rubbing_call}
+use Rattle.drawing.specs.View.{step_of, taken, state, setting, Goes, answer, drawn, rubbed}
 use Rattle.drawing.specs.declared.drawing.Drawing.{Drawing}
 use Rattle.drawing.proofs.Lives.{length_map, Alive, goes_by, stays_by}
 use Rattle.drawing.proofs.Turns.{within}
@@ -76,16 +78,8 @@ module _ {EM AM CM EC Ac CC : Type 0} (M : KindModel EM AM CM) (C : KindModel EC
   not_stepped : (d : Drawing EM EC) → (0 < length (taken d) → ⊥) → Stepped M C (state d) → ⊥
   not_stepped d n h = n (subst (λ (k : ℕ). 0 < k) (length_map step_of (taken d)) h)
 
-  stroke_early : (d : Drawing EM EC) (st : Stroke EM EC) → 0 < length (taken d) → Goes M C d (stroke st) (refused 11) d
+  pub stroke_early : (d : Drawing EM EC) (st : Stroke EM EC) → 0 < length (taken d) → Goes M C d (stroke st) (refused 11) d
   stroke_early d st h = stays_by M C RM RC d (stroke st) (refused 11) (λ l. (inl (subst (λ (k : ℕ). 0 < k) (sym (length_map step_of (taken d))) h, refl), refl))
-
-  pub draw_early : (d : Drawing EM EC) (x : Struck EM EC) → 0 < length (taken d) → Goes M C d (drawing_call x) (refused 11) d
-  draw_early d (Mark e) h = stroke_early d (draw_mark e) h
-  draw_early d (Cut e) h = stroke_early d (draw_cut e) h
-
-  pub rub_early : (d : Drawing EM EC) (x : Struck EM EC) → 0 < length (taken d) → Goes M C d (rubbing_call x) (refused 11) d
-  rub_early d (Mark e) h = stroke_early d (rub_mark e) h
-  rub_early d (Cut e) h = stroke_early d (rub_cut e) h
 
   -- the stroke changes the marks so, or the cuts
   abbrev OnMarks : Stroke EM EC → ((AM → Bool) → AM → Bool) → Type 0
@@ -94,17 +88,21 @@ module _ {EM AM CM EC Ac CC : Type 0} (M : KindModel EM AM CM) (C : KindModel EC
   abbrev OnCuts : Stroke EM EC → ((Ac → Bool) → Ac → Bool) → Type 0
   OnCuts st F = (S : Sets AM Ac) → stroked M C S st ≡ record { marks = S.marks; cuts = F S.cuts }
 
-  pub on_draw_mark : (e : EM) → OnMarks (draw_mark e) (plus M e)
-  on_draw_mark e S = λ i. record { marks = λ a. S.marks a || or_none (covers M e a) i; cuts = S.cuts }
+  pub strikes_drawn : (x : Struck EM EC) → Strikes M C plus x (drawn x)
+  strikes_drawn (Mark e) = λ S i. record { marks = λ a. S.marks a || or_none (covers M e a) i; cuts = S.cuts }
+  strikes_drawn (Cut e) = λ S i. record { marks = S.marks; cuts = λ a. S.cuts a || or_none (covers C e a) i }
 
-  pub on_rub_mark : (e : EM) → OnMarks (rub_mark e) (minus M e)
-  on_rub_mark e S = λ i. record { marks = λ a. S.marks a && not (or_none (covers M e a) i); cuts = S.cuts }
+  pub strikes_rubbed : (x : Struck EM EC) → Strikes M C minus x (rubbed x)
+  strikes_rubbed (Mark e) = λ S i. record { marks = λ a. S.marks a && not (or_none (covers M e a) i); cuts = S.cuts }
+  strikes_rubbed (Cut e) = λ S i. record { marks = S.marks; cuts = λ a. S.cuts a && not (or_none (covers C e a) i) }
 
-  pub on_draw_cut : (e : EC) → OnCuts (draw_cut e) (plus C e)
-  on_draw_cut e S = λ i. record { marks = S.marks; cuts = λ a. S.cuts a || or_none (covers C e a) i }
+  pub mark_kept : (d : Drawing EM EC) (F : (AM → Bool) → AM → Bool) (res : Result (Unit {0}) Refusal) (s t : Sheet EM) → MatchResult res (λ _. Both M F d.marks d.start_marks s t) (λ why. Neither M F why d.marks d.start_marks s t) → IfErr res (λ _. with_marks d s t ≡ d)
+  mark_kept d F (Ok x) s t h = tt
+  mark_kept d F (Err why) s t h = λ i. with_marks d (h.first i) (h.second i)
 
-  pub on_rub_cut : (e : EC) → OnCuts (rub_cut e) (minus C e)
-  on_rub_cut e S = λ i. record { marks = S.marks; cuts = λ a. S.cuts a && not (or_none (covers C e a) i) }
+  pub cut_kept : (d : Drawing EM EC) (F : (Ac → Bool) → Ac → Bool) (res : Result (Unit {0}) Refusal) (s t : Sheet EC) → MatchResult res (λ _. Both C F d.cuts d.start_cuts s t) (λ why. Neither C F why d.cuts d.start_cuts s t) → IfErr res (λ _. with_cuts d s t ≡ d)
+  cut_kept d F (Ok x) s t h = tt
+  cut_kept d F (Err why) s t h = λ i. with_cuts d (h.first i) (h.second i)
 
   module _ (d : Drawing EM EC) (st : Stroke EM EC) (n : 0 < length (taken d) → ⊥) where
     module _ (F : (AM → Bool) → AM → Bool) (on : OnMarks st F) where
@@ -149,13 +147,9 @@ module _ {EM AM CM EC Ac CC : Type 0} (M : KindModel EM AM CM) (C : KindModel EC
               (subst (λ (k : ℕ). k < length x.0) (sym b.first.room) x.2)
           over l (inr x) = none_longer C RC d.cuts (stroked M C (covered M C (state d)) st).cuts x.0 (cut_lists (covered M C (state d)) (items d.cuts) (own C d.cuts l.cuts)) x.1 x.2
 
-      pub mark_goes : (c : Call EM EC) (res : Result (Unit {0}) Refusal) (s t : Sheet EM) → c ≡ stroke st → MatchResult res (λ _. Both M F d.marks d.start_marks s t) (λ why. Neither M F why d.marks d.start_marks s t) → Goes M C d c (answer res (λ _. done)) (with_marks d s t)
-      mark_goes c (Ok x) s t e h = subst (λ (z : Call EM EC). Goes M C d z done (with_marks d s t)) (sym e) (mark_done s t h)
-      mark_goes c (Err why) s t e h = subst (λ (z : Call EM EC). Goes M C d z (refused (number why)) (with_marks d s t)) (sym e) (mark_full why s t h)
-
-      pub mark_kept : (res : Result (Unit {0}) Refusal) (s t : Sheet EM) → MatchResult res (λ _. Both M F d.marks d.start_marks s t) (λ why. Neither M F why d.marks d.start_marks s t) → IfErr res (λ _. with_marks d s t ≡ d)
-      mark_kept (Ok x) s t h = tt
-      mark_kept (Err why) s t h = λ i. with_marks d (h.first i) (h.second i)
+      pub mark_goes : (res : Result (Unit {0}) Refusal) (s t : Sheet EM) → MatchResult res (λ _. Both M F d.marks d.start_marks s t) (λ why. Neither M F why d.marks d.start_marks s t) → Goes M C d (stroke st) (answer res (λ _. done)) (with_marks d s t)
+      mark_goes (Ok x) s t h = mark_done s t h
+      mark_goes (Err why) s t h = mark_full why s t h
 
     module _ (F : (Ac → Bool) → Ac → Bool) (on : OnCuts st F) where
       lists_mark : (S : Sets AM Ac) (xs : List EM) → Lists M S.marks xs → Lists M (stroked M C S st).marks xs
@@ -199,10 +193,6 @@ module _ {EM AM CM EC Ac CC : Type 0} (M : KindModel EM AM CM) (C : KindModel EC
               none_longer C RC s (stroked M C (covered M C (state d)) st).cuts x.0 (lists_cut (covered M C (state d)) (items s) (became_lists C (F (covered_by C d.cuts)) d.cuts s b.first l.cuts)) x.1
               (subst (λ (k : ℕ). k < length x.0) (sym b.first.room) x.2)
 
-      pub cut_goes : (c : Call EM EC) (res : Result (Unit {0}) Refusal) (s t : Sheet EC) → c ≡ stroke st → MatchResult res (λ _. Both C F d.cuts d.start_cuts s t) (λ why. Neither C F why d.cuts d.start_cuts s t) → Goes M C d c (answer res (λ _. done)) (with_cuts d s t)
-      cut_goes c (Ok x) s t e h = subst (λ (z : Call EM EC). Goes M C d z done (with_cuts d s t)) (sym e) (cut_done s t h)
-      cut_goes c (Err why) s t e h = subst (λ (z : Call EM EC). Goes M C d z (refused (number why)) (with_cuts d s t)) (sym e) (cut_full why s t h)
-
-      pub cut_kept : (res : Result (Unit {0}) Refusal) (s t : Sheet EC) → MatchResult res (λ _. Both C F d.cuts d.start_cuts s t) (λ why. Neither C F why d.cuts d.start_cuts s t) → IfErr res (λ _. with_cuts d s t ≡ d)
-      cut_kept (Ok x) s t h = tt
-      cut_kept (Err why) s t h = λ i. with_cuts d (h.first i) (h.second i)
+      pub cut_goes : (res : Result (Unit {0}) Refusal) (s t : Sheet EC) → MatchResult res (λ _. Both C F d.cuts d.start_cuts s t) (λ why. Neither C F why d.cuts d.start_cuts s t) → Goes M C d (stroke st) (answer res (λ _. done)) (with_cuts d s t)
+      cut_goes (Ok x) s t h = cut_done s t h
+      cut_goes (Err why) s t h = cut_full why s t h

@@ -1,12 +1,12 @@
 -- Changes of a sheet one after the other.
-use Rattle.std.proofs.Common.{◌≡◌, ℕ, ◌+◌, ◌<◌, ◌≤◌, min, Bool, true, false, not, ◌&&◌, ◌||◌, List, [], ◌∷◌, ◌++◌, length, get_or, take, IfErr, Ok, Err, Result, sym, refl, ap, ◌∙◌, subst, ⊎_elim, arith, MatchResult}
+use Rattle.std.proofs.Common.{◌≡◌, ℕ, ◌+◌, ◌<◌, ◌≤◌, min, Bool, false, ◌||◌, List, [], ◌∷◌, ◌++◌, length, get_or, take, IfErr, Ok, Err, Result, sym, refl, ap, ◌∙◌, subst, ⊎_elim, arith, MatchResult}
 use Rattle.std.proofs.lemmas.Bool.{cases_lt}
 use Rattle.std.proofs.lemmas.List.{take_all, take_more, length-take}
 use Rattle.lattice.specs.declared.placement.Placement.{Placement}
 use Rattle.lattice.specs.declared.refusal.Refusal.{Refusal}
 use Rattle.kinds.specs.Model.{KindModel}
 use Rattle.sheets.specs.Contents.{items, room, Sound, covered, Became, Refused}
-use Rattle.sheets.specs.Cover.{union, difference}
+use Rattle.sheets.specs.Change.{by, Lawful}
 use Rattle.sheets.specs.Maximal.{Same}
 use Rattle.sheets.specs.declared.sheet.Sheet.{Sheet}
 use Rattle.sheets.proofs.Joined.{or_assoc, or_none}
@@ -19,15 +19,6 @@ clamped n k xs e = ⊎_elim (λ h. ap (λ (j : ℕ). take j xs) (omega arith)) (
 
 pub within : {E : Type 0} (s : Sheet E) → length (items s) ≤ room s
 within s = simp length-take (omega arith)
-
-and_all : (x : Bool) → (x && not false) ≡ x
-and_all true = refl
-and_all false = refl
-
-less_less : (x y z : Bool) → ((x && not y) && not z) ≡ (x && not (y || z))
-less_less false y z = refl
-less_less true true z = refl
-less_less true false z = refl
 
 module _ {E A C : Type 0} (m : KindModel E A C) where
   placed_append : (p : Placement) (xs ys : List E) (a : A) → placed m p (xs ++ ys) a ≡ (placed m p xs a || placed m p ys a)
@@ -69,22 +60,16 @@ module _ {E A C : Type 0} (m : KindModel E A C) where
   pub turned_none : (S : A → Bool) (s : Sheet E) → Same (covered m s) S → Turned m 1 S s s
   turned_none S s e = record { sound = λ h. h; covers = λ r h. e; more = omega arith; room = refl }
 
-  pub less_none : (S : A → Bool) → Same S (difference S (λ x. false))
-  less_none S a = sym (and_all (S a))
+  module _ (op : Bool → Bool → Bool) (law : Lawful op) where
+    pub changed_none : (S : A → Bool) → Same S (by op S (λ x. false))
+    changed_none S a = sym (law.none (S a))
 
-  pub more_none : (S : A → Bool) → Same S (union S (λ x. false))
-  more_none S a = sym (or_none (S a))
-
-  module _ (p : Placement) (xs : List E) (i : ℕ) (x : E) (l : i < length xs) (is : x ≡ get_or xs i x) (s t u : Sheet E) where
-    pub off_more : Turned m i (difference (covered m s) (placed m p (take i xs))) s t → Turned m 1 (difference (covered m t) (atoms m (m.place p x))) t u → Turned m (i + 1) (difference (covered m s) (placed m p (take (i + 1) xs))) s u
-    off_more h k =
-        turned_as (λ a. less_less (covered m s a) (placed m p (take i xs) a) (atoms m (m.place p x) a) ∙ ap (λ (b : Bool). covered m s a && not b) (sym (placed_more p xs i x l is a)))
-        (turned_then (λ (S : A → Bool). difference S (placed m p (take i xs))) (λ (S : A → Bool). difference S (atoms m (m.place p x))) h k)
-
-    pub on_more : Turned m i (union (covered m s) (placed m p (take i xs))) s t → Turned m 1 (union (covered m t) (atoms m (m.place p x))) t u → Turned m (i + 1) (union (covered m s) (placed m p (take (i + 1) xs))) s u
-    on_more h k =
-        turned_as (λ a. or_assoc (covered m s a) (placed m p (take i xs) a) (atoms m (m.place p x) a) ∙ ap (λ (b : Bool). covered m s a || b) (sym (placed_more p xs i x l is a)))
-        (turned_then (λ (S : A → Bool). union S (placed m p (take i xs))) (λ (S : A → Bool). union S (atoms m (m.place p x))) h k)
+    -- the change by one element more
+    pub changed_more : (p : Placement) (xs : List E) (i : ℕ) (x : E) → i < length xs → x ≡ get_or xs i x → (s t u : Sheet E)
+        → Turned m i (by op (covered m s) (placed m p (take i xs))) s t → Turned m 1 (by op (covered m t) (atoms m (m.place p x))) t u → Turned m (i + 1) (by op (covered m s) (placed m p (take (i + 1) xs))) s u
+    changed_more p xs i x l is s t u h k =
+        turned_as (λ a. sym (law.both (covered m s a) (placed m p (take i xs) a) (atoms m (m.place p x) a)) ∙ ap (op (covered m s a)) (sym (placed_more p xs i x l is a)))
+        (turned_then (λ (S : A → Bool). by op S (placed m p (take i xs))) (λ (S : A → Bool). by op S (atoms m (m.place p x))) h k)
 
   pub turned_all : (F : (A → Bool) → A → Bool) (p : Placement) (xs : List E) (i : ℕ) (s t : Sheet E) → i ≡ length xs → Turned m i (F (placed m p (take i xs))) s t → Turned m (length xs) (F (placed m p xs)) s t
   turned_all F p xs i s t e h = subst (λ (ys : List E). Turned m (length xs) (F (placed m p ys)) s t) (take_all (length xs) xs (omega arith)) (subst (λ (j : ℕ). Turned m j (F (placed m p (take j xs))) s t) e h)

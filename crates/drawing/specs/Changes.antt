@@ -5,17 +5,14 @@ use Rattle.lattice.specs.declared.placement.Placement.{Placement}
 use Rattle.lattice.specs.declared.refusal.Refusal.{Refusal}
 use Rattle.kinds.specs.Model.{KindModel, covers}
 use Rattle.sheets.specs.Contents.{items, room, Sound, covered, Became}
-use Rattle.sheets.specs.Cover.{union, difference}
+use Rattle.sheets.specs.Change.{by}
 use Rattle.sheets.specs.Maximal.{Same, Lists, Counts}
 use Rattle.sheets.specs.declared.sheet.Sheet.{Sheet}
 
 module _ {E A C : Type 0} (m : KindModel E A C) where
-  -- a set with the atoms of e, and without them
-  abbrev pub plus : E → (A → Bool) → A → Bool
-  plus e set = union set (covers m e)
-
-  abbrev pub minus : E → (A → Bool) → A → Bool
-  minus e set = difference set (covers m e)
+  -- a set changed by the atoms of e
+  abbrev pub changed : (Bool → Bool → Bool) → E → (A → Bool) → A → Bool
+  changed op e set = by op set (covers m e)
 
   -- every element, placed, stays in the field
   abbrev pub stays : Placement → List E → Bool

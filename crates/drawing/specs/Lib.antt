@@ -1,4 +1,5 @@
 pub mod Changes
+pub mod Strikes
 pub mod View
 pub mod Steps
 pub mod Asking

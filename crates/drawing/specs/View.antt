@@ -4,7 +4,7 @@ use Rattle.lattice.specs.Refusals.{number}
 use Rattle.lattice.specs.declared.refusal.Refusal.{Refusal}
 use Rattle.kinds.specs.Model.{KindModel}
 use Rattle.sheets.specs.Contents.{items, room}
-use Rattle.grammar.specs.Calls.{Call, stroke, draw_mark, rub_mark, draw_cut, rub_cut, Answer, refused, Event}
+use Rattle.grammar.specs.Calls.{Stroke as Struck, Call, stroke, draw_mark, rub_mark, draw_cut, rub_cut, Answer, refused, Event}
 use Rattle.grammar.specs.Moves.{History}
 use Rattle.grammar.specs.Numbers.{ordinal}
 use Rattle.grammar.specs.Record.{Step}
@@ -40,14 +40,20 @@ pub record Tables (marks cuts start_marks start_cuts steps : ℕ) : Type 0 where
 abbrev pub answer : {V : Type 0} → Result V Refusal → (V → Answer) → Answer
 answer r f = elim r [ Ok v ↦ f v | Err e ↦ refused (number e) ]
 
--- the calls that draw and rub out
+-- the strokes that draw and rub out an element, and the calls
+abbrev pub drawn : {EM EC : Type 0} → Stroke EM EC → Struck EM EC
+drawn (Mark e) = draw_mark e
+drawn (Cut e) = draw_cut e
+
+abbrev pub rubbed : {EM EC : Type 0} → Stroke EM EC → Struck EM EC
+rubbed (Mark e) = rub_mark e
+rubbed (Cut e) = rub_cut e
+
 abbrev pub drawing_call : {EM EC : Type 0} → Stroke EM EC → Call EM EC
-drawing_call (Mark e) = stroke (draw_mark e)
-drawing_call (Cut e) = stroke (draw_cut e)
+drawing_call x = stroke (drawn x)
 
 abbrev pub rubbing_call : {EM EC : Type 0} → Stroke EM EC → Call EM EC
-rubbing_call (Mark e) = stroke (rub_mark e)
-rubbing_call (Cut e) = stroke (rub_cut e)
+rubbing_call x = stroke (rubbed x)
 
 module _ {EM AM CM EC Ac CC : Type 0} (M : KindModel EM AM CM) (C : KindModel EC Ac CC) where
   -- under these rules and table sizes these calls with these answers made the drawing, on tables that can be drawn on

@@ -33,52 +33,41 @@ impl<'a, 'b, 'c, M: Kind, C: Kind> Drawing<'a, 'b, 'c, M, C> {
     fn sought(&self, rule: i32) -> Result<Scene<M, C>, Refusal>
         ensures { MatchResult result (λ s. Seeks M.Kind.model C.Kind.model self.now (Ordinal rule) s) (λ why. Barred M.Kind.model C.Kind.model self.now (Ordinal rule) why) }
     {
-        match self.book.find(rule) {
-            Some(found) => {
-                let scene = self.scene(found);
-                if scene.left_marks.len() > 0 {
-                    return Ok(scene);
-                }
-                if scene.left_cuts.len() > 0 {
-                    return Ok(scene);
-                }
-                Err(Refusal::EmptyLeft)
-            }
-            None => Err(Refusal::NoSuchRule),
+        let Some(found) = self.book.find(rule) else {
+            return Err(Refusal::NoSuchRule);
+        };
+        let scene = self.scene(found);
+        if scene.left_marks.len() > 0 {
+            return Ok(scene);
         }
+        if scene.left_cuts.len() > 0 {
+            return Ok(scene);
+        }
+        Err(Refusal::EmptyLeft)
     }
 
     // The place with a number.
     pub(crate) fn place(&self, rule: i32, number: i32) -> Result<Placement, Refusal>
         ensures { MatchResult result (λ p. (t : Setting M C) (es : List (Event M C)) → Lived M.Kind.model C.Kind.model t es self.now → Listing M.Kind.model C.Kind.model self.now (Ordinal rule) (Ordinal number) p) (λ why. Goes M.Kind.model C.Kind.model self.now (Pick rule number) (RefusedBy (Number why)) self.now) }
     {
-        match self.sought(rule) {
-            Ok(scene) => match scene.place(number) {
-                Some(p) => Ok(p),
-                None => Err(Refusal::NoSuchPlace),
-            },
-            Err(why) => Err(why),
-        }
+        let scene = self.sought(rule)?;
+        scene.place(number).ok_or(Refusal::NoSuchPlace)
     }
 
     // How many places a rule has.
     pub fn count(&self, rule: i32) -> Result<u32, Refusal>
         ensures { Goes M.Kind.model C.Kind.model self.now (Count rule) (answer result Counted) self.now }
     {
-        match self.sought(rule) {
-            Ok(scene) => Ok(scene.count()),
-            Err(why) => Err(why),
-        }
+        let scene = self.sought(rule)?;
+        Ok(scene.count())
     }
 
     // The first place of a rule after any three numbers, read as a turn, a shift across and a shift up.
     pub fn next(&self, rule: i32, after: (i32, i32, i32)) -> Result<Option<Placement>, Refusal>
         ensures { Goes M.Kind.model C.Kind.model self.now (Next rule (Bound after)) (answer result NextIs) self.now }
     {
-        match self.sought(rule) {
-            Ok(scene) => Ok(scene.next(after)),
-            Err(why) => Err(why),
-        }
+        let scene = self.sought(rule)?;
+        Ok(scene.next(after))
     }
 
     // Writes all places of a rule from the front of the buffer and says how many; the rest remains. All of it remains if the
@@ -87,9 +76,7 @@ impl<'a, 'b, 'c, M: Kind, C: Kind> Drawing<'a, 'b, 'c, M, C> {
         ensures goes { Goes M.Kind.model C.Kind.model self.now (ListAll rule out.old) (answer result (λ n. ListedAs n out.new)) self.now }
         ensures kept { OnErr result (out.new ≡ out.old) }
     {
-        match self.sought(rule) {
-            Ok(scene) => scene.list(out),
-            Err(why) => Err(why),
-        }
+        let scene = self.sought(rule)?;
+        scene.list(out)
     }
 }

@@ -10,9 +10,6 @@ impl<'a, 'b, 'c, M: Kind, C: Kind> Drawing<'a, 'b, 'c, M, C> {
     pub fn same_cover(&self, other: &Drawing<M, C>) -> bool
         ensures { PlacesFollowCover M.Kind.model C.Kind.model result self.now other.now }
     {
-        if !self.marks.same(&other.marks) {
-            return false;
-        }
-        self.cuts.same(&other.cuts)
+        self.marks.same(&other.marks) && self.cuts.same(&other.cuts)
     }
 }

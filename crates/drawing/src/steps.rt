@@ -39,10 +39,7 @@ impl<'a, 'b, 'c, M: Kind, C: Kind> Drawing<'a, 'b, 'c, M, C> {
     fn right_stays(&self, found: RuleRecord, p: Placement) -> bool
         ensures { result ≡ (Stays M.Kind.model p (RuleOf self.now.book.now found).right.marks && Stays C.Kind.model p (RuleOf self.now.book.now found).right.cuts) }
     {
-        if !all_stay(self.book.right_marks(found), p) {
-            return false;
-        }
-        all_stay(self.book.right_cuts(found), p)
+        all_stay(self.book.right_marks(found), p) && all_stay(self.book.right_cuts(found), p)
     }
 
     // Whether on both sheets the elements now, with those of both sides, do not exceed the slots.
@@ -86,10 +83,10 @@ impl<'a, 'b, 'c, M: Kind, C: Kind> Drawing<'a, 'b, 'c, M, C> {
         ensures kept { OnErr result (self.new ≡ self.old) }
     {
         let book = self.book;
-        match book.find(rule) {
-            Some(found) => self.apply_found(rule, found, p),
-            None => Err(Refusal::NoSuchRule),
-        }
+        let Some(found) = book.find(rule) else {
+            return Err(Refusal::NoSuchRule);
+        };
+        self.apply_found(rule, found, p)
     }
 
     // The rule of this number is applied at the place of this number.
@@ -97,10 +94,8 @@ impl<'a, 'b, 'c, M: Kind, C: Kind> Drawing<'a, 'b, 'c, M, C> {
         ensures goes { Goes M.Kind.model C.Kind.model self.old (Pick rule number) (answer result (λ _. Done)) self.new }
         ensures kept { OnErr result (self.new ≡ self.old) }
     {
-        match self.place(rule, number) {
-            Ok(p) => self.apply(rule, p),
-            Err(why) => Err(why),
-        }
+        let p = self.place(rule, number)?;
+        self.apply(rule, p)
     }
 
     // A recorded step is made.
@@ -108,13 +103,12 @@ impl<'a, 'b, 'c, M: Kind, C: Kind> Drawing<'a, 'b, 'c, M, C> {
         ensures { Redone M.Kind.model C.Kind.model step self.old self.new }
     {
         let book = self.book;
-        match book.find(step.rule) {
-            Some(found) => self.turn(found, step.at),
-            None => {}
+        if let Some(found) = book.find(step.rule) {
+            self.turn(found, step.at);
         }
     }
 
-    // The first `n` recorded steps are made.
+    // The first `n` recorded steps are made. Each is read by its index, since the drawing that has them changes with each.
     fn replay(&mut self, n: usize)
         requires { n ≤ length self.old.steps.now }
         ensures { Replayed M.Kind.model C.Kind.model n self.old self.new }

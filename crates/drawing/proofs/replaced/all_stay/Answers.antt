@@ -1,12 +1,11 @@
-use Rattle.std.proofs.Common.{sym}
-use Rattle.drawing.proofs.Stays.{stays_more, stays_not, stays_all}
+use Rattle.std.proofs.Common.{◌≡◌, true, false, is_some, rules, tests}
+use Rattle.std.proofs.lemmas.Iterator.{cases_from_all, YieldsList-from_slice}
+use Rattle.drawing.proofs.Stays.{stays_told}
 use Rattle.drawing.proofs.replaced.all_stay.Goals as goal
 
-pub returns-in-None : goal.returns-in-None
-returns-in-None g c = sym (stays_not g.K.Kind.model c.args.p c.args.xs.now c.loop-x.x-index c.x-item.result c.loop-x-test.true c.x-item.is c.in-None.ensures)
-
-pub loop-x-preserved : goal.loop-x-preserved
-loop-x-preserved g c = stays_more g.K.Kind.model c.args.p c.args.xs.now c.loop-x.x-index c.x-item.result c.loop-x-test.true c.x-item.is _ c.loop-x.invariant c.in-Some.ensures
-
 pub returns : goal.returns
-returns g c = stays_all g.K.Kind.model c.args.p c.args.xs.now c.loop-x.x-index c.loop-x-test.false c.loop-x.invariant
+returns g c =
+    let m = g.K.Kind.model in
+    let p = c.args.p in
+    stays_told m p c.args.xs.now c.all.result
+    (cases_from_all _ _ _ (λ x. is_some (m.place p x) ≡ true) (λ x. is_some (m.place p x) ≡ false) c.all.ensures.ran (YieldsList-from_slice _ c.iter.ensures.rest) (λ x q k. search (rules, tests)) (λ x q k. search (rules, tests)))

@@ -6,4 +6,4 @@ use Rattle.drawing.proofs.replaced.replace.Goals as goal
 pub returns : goal.returns
 returns g c =
     let m = g.K.Kind.model in
-    turned_then m (λ S. difference S (placed m c.args.p c.args.left.now)) (λ S. union S (placed m c.args.p c.args.right.now)) c.take_all_off.ensures c.put_all_on.ensures
+    turned_then m (λ S. difference S (placed m c.args.p c.args.left.now)) (λ S. union S (placed m c.args.p c.args.right.now)) c.change_all_placed.ensures c.change_all_placed-2.ensures

@@ -14,12 +14,12 @@ returns-then-scene-gt0-2 g c =
     let e = ap (λ (z : ℤ). nth (rules_of c.args.self.now.book.now) (ordinal z)) (sym (to_z-of_z c.ranges.rule)) in
     seeks_cuts g.M.Kind.model g.C.Kind.model g.met.M.Kind.rules g.met.C.Kind.rules c.args.self.now (ordinal c.args.rule) c.in-Some.found c.scene-scene.result (e ∙ c.in-Some.ensures) c.scene-scene.ensures c.if-scene-gt0-2.true
 
-pub returns-else-scene-gt0-2 : goal.returns-else-scene-gt0-2
-returns-else-scene-gt0-2 g c =
+pub returns : goal.returns
+returns g c =
     let e = ap (λ (z : ℤ). nth (rules_of c.args.self.now.book.now) (ordinal z)) (sym (to_z-of_z c.ranges.rule)) in
     barred_empty g.M.Kind.model g.C.Kind.model g.met.M.Kind.rules g.met.C.Kind.rules c.args.self.now (ordinal c.args.rule) c.in-Some.found c.scene-scene.result (e ∙ c.in-Some.ensures) c.scene-scene.ensures c.if-scene-gt0.false c.if-scene-gt0-2.false
 
-pub returns-in-None : goal.returns-in-None
-returns-in-None g c =
+pub returns-in_default : goal.returns-in_default
+returns-in_default g c =
     let e = ap (λ (z : ℤ). nth (rules_of c.args.self.now.book.now) (ordinal z)) (sym (to_z-of_z c.ranges.rule)) in
-    barred_missing g.M.Kind.model g.C.Kind.model g.met.M.Kind.rules g.met.C.Kind.rules c.args.self.now (ordinal c.args.rule) (e ∙ c.in-None.ensures)
+    barred_missing g.M.Kind.model g.C.Kind.model g.met.M.Kind.rules g.met.C.Kind.rules c.args.self.now (ordinal c.args.rule) (e ∙ c.in_default.ensures)
