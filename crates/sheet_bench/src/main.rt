@@ -11,10 +11,7 @@ use std::time::Instant;
 
 // A refusal ends the program.
 fn must<T>(answer: Result<T, Refusal>) -> anyhow::Result<T> {
-    match answer {
-        Ok(value) => Ok(value),
-        Err(_) => Err(anyhow!("a call is refused")),
-    }
+    answer.map_err(|_| anyhow!("a call is refused"))
 }
 
 // The cut of a number: one edge of a row, with a gap to the next. A row has 1000 of them.
@@ -33,14 +30,12 @@ fn fill(sheet: &mut Sheet<Segment>, cuts: u32) -> Result<(), Refusal> {
 }
 
 // Asks of 512 cuts whether they are covered: how many are.
-fn ask(sheet: &Sheet<Segment>, cuts: u32) -> Result<u32, Refusal> {
-    let mut found: u32 = 0;
-    for k in 0_u32..512 {
-        if sheet.covers_element(&cut(k.wrapping_mul(997) % cuts.max(1))?) {
-            found = found.saturating_add(1);
-        }
-    }
-    Ok(found)
+fn ask(sheet: &Sheet<Segment>, cuts: u32) -> usize {
+    (0_u32..512)
+        .filter(|k| {
+            cut(k.wrapping_mul(997) % cuts.max(1)).is_ok_and(|e| sheet.covers_element(&e))
+        })
+        .count()
 }
 
 // Rubs and draws the first cut 512 times, so that every other cut moves twice each time.
@@ -53,25 +48,14 @@ fn redraw(sheet: &mut Sheet<Segment>) -> Result<(), Refusal> {
     Ok(())
 }
 
-// The least time of sixteen rounds of questions.
-fn asking(clock: &impl Clock, sheet: &Sheet<Segment>, cuts: u32) -> anyhow::Result<u128> {
+// The least time of sixteen rounds.
+fn least<F: FnMut() -> anyhow::Result<()>>(clock: &impl Clock, mut round: F) -> anyhow::Result<u128>
+    requires { F.IsAlwaysCallable round }
+{
     let mut least = u128::MAX;
     for _ in 0..16 {
         let start = Instant::now(clock)?;
-        if must(ask(sheet, cuts))? != 512 {
-            return Err(anyhow!("a cut is not found"));
-        }
-        least = least.min(start.elapsed(clock)?.as_nanos());
-    }
-    Ok(least)
-}
-
-// The least time of sixteen rounds of draws.
-fn drawing(clock: &impl Clock, sheet: &mut Sheet<Segment>) -> anyhow::Result<u128> {
-    let mut least = u128::MAX;
-    for _ in 0..16 {
-        let start = Instant::now(clock)?;
-        must(redraw(sheet))?;
+        round()?;
         least = least.min(start.elapsed(clock)?.as_nanos());
     }
     Ok(least)
@@ -82,8 +66,11 @@ fn measure(rt: &HostRuntime, cuts: u32) -> anyhow::Result<(u128, u128)> {
     let mut slots = vec![in rt.alloc(); must(cut(0))?; cuts as usize]?;
     let mut sheet = must(Sheet::new(slots.as_mut_slice()))?;
     must(fill(&mut sheet, cuts))?;
-    let questions = asking(rt, &sheet, cuts)?;
-    let draws = drawing(rt, &mut sheet)?;
+    let questions = least(rt, || match ask(&sheet, cuts) {
+        512 => Ok(()),
+        _ => Err(anyhow!("a cut is not found")),
+    })?;
+    let draws = least(rt, || must(redraw(&mut sheet)))?;
     let count = sheet.count();
     let atoms = sheet.atoms();
     println!(rt; "{cuts} cuts drawn: {count} elements, {atoms} atoms")?;

@@ -29,11 +29,8 @@ pub fn covers(sheet: &Sheet<Segment>, x: i32, y: i32, u: i32, v: i32) -> Result<
 
 // The ends of the sheet's cut at a place: lower x, lower y, upper x, upper y.
 pub fn ends(sheet: &Sheet<Segment>, at: usize) -> Option<(i32, i32, i32, i32)> {
-    let cuts = sheet.elements();
-    if at >= cuts.len() {
-        return None;
-    }
-    let (x, y) = cuts[at].lower();
-    let (u, v) = cuts[at].upper();
+    let cut = sheet.elements().get(at)?;
+    let (x, y) = cut.lower();
+    let (u, v) = cut.upper();
     Some((x, y, u, v))
 }

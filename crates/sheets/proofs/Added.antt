@@ -1,8 +1,8 @@
 -- A canonical list with the atoms of one element more.
-use Rattle.std.proofs.Common.{◌≡◌, ℕ, ◌+◌, ◌-◌, ◌<◌, ◌≤◌, Bool, true, false, ◌||◌, List, ◌∷◌, ◌++◌, length, get_or, take, drop, Ok, Err, Result, sym, refl, ap, ◌∙◌, subst, ⊎_elim, arith, MatchResult}
+use Rattle.std.proofs.Common.{◌≡◌, ℕ, min, ◌+◌, ◌-◌, ◌^◌, ◌<◌, ◌≤◌, Bool, true, false, ◌||◌, List, ◌∷◌, ◌++◌, length, get_or, take, drop, Ok, Err, Result, sym, refl, ap, ◌∙◌, subst, ⊎_elim, arith, MatchResult}
 use Rattle.std.specs.List.{between, AllByRecursion}
 use Rattle.std.proofs.lemmas.Bool.{cases_lt}
-use Rattle.std.proofs.lemmas.List.{take-append-drop, drop-drop, drop_more, drop_all}
+use Rattle.std.proofs.lemmas.List.{length-take, take-append-drop, drop-drop, drop_more, drop_all}
 use Rattle.std.proofs.lemmas.List.Edits.{split_between}
 use Rattle.lattice.specs.declared.refusal.Refusal.{Refusal}
 use Rattle.kinds.specs.Model.{KindModel, covers}
@@ -11,7 +11,7 @@ use Rattle.sheets.specs.declared.sheet.Sheet.{Sheet}
 use Rattle.sheets.specs.Cover.{cover, ahead, canonical}
 use Rattle.sheets.specs.Maximal.{Lists, Counts}
 use Rattle.sheets.specs.Finding.{Parted, Whole}
-use Rattle.sheets.specs.Contents.{items, room, Sound, Became, Refused}
+use Rattle.sheets.specs.Contents.{covered, items, room, Sound, Became, Refused}
 use Rattle.sheets.specs.Put.{Put, NoPut, Makes, news}
 use Rattle.sheets.specs.declared.splice.Splice.{Splice}
 use Rattle.sheets.proofs.Order.{Pairs, pairs_from, pairs_to}
@@ -25,21 +25,35 @@ split_rest xs from to low =
     sym (take-append-drop (to - from) (drop from xs)) ∙ ap (λ l. between from to xs ++ l) (drop-drop (to - from) from xs ∙ ap (λ k. drop k xs) index)
 
 module _ {E A C : Type 0} (m : KindModel E A C) (r : Rules m) where
-  -- a change to a list that covers the set, or a refusal for want of room
-  pub settled : {V : Type 0} (set : A → Bool) (p : Splice E) (s t : Sheet E) (res : Result V Refusal)
-      → Makes m set (items s) p
-      → MatchResult res (λ _. Put p s t) (λ e. NoPut p s t e)
-      → MatchResult res (λ _. Became m set s t) (λ e. Refused m set s t e)
-  settled set p s t (Ok v) h put = record {
-    sound = λ k. record { ordered = ap (canonical m) put.items ∙ (h.lists k.ordered).ordered; few = (let f = k.few in let q = put.room in omega arith) };
-    covers = λ k a. ap (λ l. cover m l a) put.items ∙ (h.lists k.ordered).covering a;
-    room = put.room;
-  }
-  settled set p s t (Err v) h put = record {
-    number = put.number;
-    same = put.same;
-    full = λ k. (_, record { list = _; lists = h.lists k.ordered; long = refl }, put.full);
-  }
+  -- p, found for the elements of a sheet and e, makes of them the list of what the operation makes of both
+  module _ (op : (A → Bool) → (A → Bool) → A → Bool) (e : E) (xs : List E) (p : Splice E) (s : Sheet E) (is : xs ≡ items s) (h : Makes m (op (cover m xs) (covers m e)) xs p) where
+    made : Makes m (op (covered m s) (covers m e)) (items s) p
+    made = subst (λ l. Makes m (op (cover m l) (covers m e)) l p) is h
+
+    -- the sheet covers that then, or there was no room
+    pub settled : {V : Type 0} (t : Sheet E) (res : Result V Refusal)
+        → MatchResult res (λ _. Put p s t) (λ e. NoPut p s t e)
+        → MatchResult res (λ _. Became m (op (covered m s) (covers m e)) s t) (λ why. Refused m (op (covered m s) (covers m e)) s t why)
+    settled t (Ok v) put = record {
+      sound = λ k. record { ordered = ap (canonical m) put.items ∙ (made.lists k.ordered).ordered; few = (let f = k.few in let q = put.room in omega arith) };
+      covers = λ k a. ap (λ l. cover m l a) put.items ∙ (made.lists k.ordered).covering a;
+      room = put.room;
+    }
+    settled t (Err v) put = record {
+      number = put.number;
+      same = put.same;
+      full = λ k. (_, record { list = _; lists = made.lists k.ordered; long = refl }, put.full);
+    }
+
+    -- and has so many elements then
+    pub counted : (n : ℕ) → n ≡ min (length xs - (p.to - p.from) + length (news p)) (2 ^ 64 - 1) → Sound m s → Counts m (op (covered m s) (covers m e)) n
+    counted n q k =
+        let few = k.few in
+        let more = made.few in
+        let l = ap length is in
+        let within = length-take s.count s.slots.now in
+        let long : n ≡ length (items s) - (p.to - p.from) + length (news p) = omega arith in
+        record { list = _; lists = made.lists k.ordered; long = length_with (items s) (news p) p.from p.to made.low made.high ∙ sym long }
 
   -- what the search and the gathering found
   pub record Gathered (xs : List E) (e w : E) (from to : ℕ) : Type 0 where
@@ -62,10 +76,6 @@ module _ {E A C : Type 0} (m : KindModel E A C) (r : Rules m) where
 
     pub added_cover : (a : A) → cover m (take from xs ++ (w ∷ drop to xs)) a ≡ (cover m xs a || covers m e a)
     added_cover a = joined_cover m r e w (take from xs) (between from to xs) (drop to xs) a f.whole ∙ ap (λ l. cover m l a || covers m e a) (sym (split_between xs from to f.low))
-
-  -- how long the changed list is
-  pub counted : (set : A → Bool) (p : Splice E) (n : ℕ) (s : Sheet E) → Makes m set (items s) p → Sound m s → n ≡ length (items s) - (p.to - p.from) + length (news p) → Counts m set n
-  counted set p n s h k e = record { list = _; lists = h.lists k.ordered; long = length_with (items s) (news p) p.from p.to h.low h.high ∙ sym e }
 
   -- of a refusal: every list of the set is longer than there are slots
   pub refused_any : (set : A → Bool) (s t : Sheet E) (why : Refusal) → Refused m set s t why → Sound m s → (ys : List E) → Lists m set ys → room s < length ys

@@ -10,7 +10,6 @@ use kinds::kind::Kind;
 use std::cmp::Ordering;
 
 // Whether `a` stands before `b` and does not touch it.
-#[tactic(auto, unfolding(crate::specs::Cover::ahead))]
 pub fn is_ahead<K: Kind>(a: &K, b: &K) -> bool
     ensures { result ≡ ahead K.model a.now b.now }
 {
@@ -35,7 +34,7 @@ pub fn contains<K: Kind>(x: &K, e: &K) -> bool
     x.compare(e).is_eq() && x.start() <= e.start() && e.end() <= x.end()
 }
 
-// Whether two elements are the same.
+// Whether two elements are the same. Of a kind no `==` is asked, since what they cover tells elements apart.
 pub fn is_same<K: Kind>(a: &K, b: &K) -> bool
     ensures { Decides result (a.now ≡ b.now) }
 {

@@ -19,6 +19,10 @@ use lattice::refusal::Refusal;
 // The most slots that a sheet can have.
 pub const MOST_SLOTS: usize = 4096;
 
+// The slots are the caller's, since the library owns no memory; the first `count` of them hold elements. That a sheet is sound
+// is said in the clauses and not by the type: `sum_into` makes a sheet over slots of which nothing is known, and a fact of the
+// type would have to hold at every write through the lent slots, so also between the writes of one change.
+// The clause `lender` says that the slots stay those that were lent, whatever a call answers: so it is not part of one case.
 #[derive(Drop)]
 pub struct Sheet<'a, K> {
     pub(crate) slots: &'a mut [K],
@@ -138,7 +142,8 @@ impl<'a, K: Kind> Sheet<'a, K> {
         self.elements().iter().all(|e| other.covers_element(e))
     }
 
-    // Whether the two sheets cover the same, which is whether they have the same list.
+    // Whether the two sheets cover the same, which is whether they have the same list. It is no `==`, whose law asks for a test
+    // of sameness in the model, where a kind has none.
     pub fn same(&self, other: &Sheet<K>) -> bool
         ensures cover { Sound K.model self.now → Sound K.model other.now → Decides result (Same (covered K.model self.now) (covered K.model other.now)) }
         ensures list { Decides result (items self.now ≡ items other.now) }

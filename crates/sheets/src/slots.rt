@@ -16,5 +16,5 @@ pub fn sum_into<K: Kind>(slots: &mut [K], count: usize, e: K) -> Result<usize, R
 {
     let mut sheet = Sheet { slots, count };
     sheet.add(e)?;
-    Ok(sheet.elements().len())
+    Ok(sheet.count())
 }

@@ -48,11 +48,13 @@ impl<K: Kind> Splice<K> {
                 right: None,
             };
         }
+        let left = left_part(xs[from], e);
+        let right = right_part(xs[to - 1], e);
         Splice {
             from,
             to,
-            left: left_part(xs[from], e),
-            right: right_part(xs[to - 1], e),
+            left,
+            right,
         }
     }
 

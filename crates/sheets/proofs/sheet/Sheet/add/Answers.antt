@@ -1,15 +1,6 @@
-use Rattle.std.proofs.Common.{subst}
-use Rattle.kinds.specs.Model.{covers}
-use Rattle.sheets.specs.Cover.{cover, union}
-use Rattle.sheets.specs.Contents.{covered}
-use Rattle.sheets.specs.Put.{Makes}
+use Rattle.sheets.specs.Cover.{union}
 use Rattle.sheets.proofs.Added.{settled}
 use Rattle.sheets.proofs.sheet.Sheet.add.Goals as goal
 
 pub returns-clause-cases : goal.returns-clause-cases
-returns-clause-cases g c =
-    let m = g.K.Kind.model in
-    let s = c.args.self.now in
-    let e = c.args.e in
-    let h = subst (λ l. Makes m (union (cover m l) (covers m e)) l c.sum.result) c.elements.ensures.value c.sum.ensures in
-    settled m g.met.K.Kind.rules (union (covered m s) (covers m e)) c.sum.result s c.put.new.self c.put.result h c.put.ensures.cases
+returns-clause-cases g c = settled g.K.Kind.model g.met.K.Kind.rules union c.args.e _ c.sum.result c.args.self.now c.elements.ensures.value c.sum.ensures c.put.new.self c.put.result c.put.ensures.cases

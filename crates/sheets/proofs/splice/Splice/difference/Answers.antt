@@ -28,12 +28,12 @@ returns g c =
     let e = c.args.e.now in
     let from = c.place_of-from.result in
     let to = c.reach-to.result in
-    let lo = c.left_part.result in
-    let ro = c.right_part.result in
+    let lo = c.left_part-left.result in
+    let ro = c.right_part-right.result in
     let ps = listed lo ro in
     let less : from < to = omega (arith, c.reach-to.ensures.low, c.if-from-to.false) in
     let f : Reached m r xs e from to = record { low = c.reach-to.ensures.low; high = c.reach-to.ensures.high; parted = c.place_of-from.ensures.parted; touch = c.reach-to.ensures.all; ends = c.reach-to.ensures.ends } in
-    let cut : Cut m r xs e from to ps = cut_some m r xs e c.index-xs-from.result c.index-xs-to.result from to lo ro less f.high c.index-xs-from.is c.index-xs-to.is c.left_part.ensures c.right_part.ensures f in
+    let cut : Cut m r xs e from to ps = cut_some m r xs e c.index-xs-from.result c.index-xs-to.result from to lo ro less f.high c.index-xs-from.is c.index-xs-to.is c.left_part-left.ensures c.right_part-right.ensures f in
     record {
       low = f.low;
       high = f.high;
