@@ -1,4 +1,5 @@
 pub mod Best
 pub mod Ranks
+pub mod Walking
 pub mod Counting
 pub mod Searched

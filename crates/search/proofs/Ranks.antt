@@ -5,6 +5,7 @@ use Rattle.lattice.specs.declared.placement.Placement.{Placement}
 use Rattle.lattice.specs.Order.{Triple, triple, Before}
 use Rattle.lattice.proofs.Bounds.{shifting_parts}
 use Rattle.grammar.proofs.Placements.{turn_below}
+use Rattle.search.specs.Ranks.{rank}
 
 -- the numbers of a placement, or those that stand before all
 pub record Boxed (t : Triple) : Type 0 where
@@ -14,9 +15,6 @@ pub record Boxed (t : Triple) : Type 0 where
   pub right : t.across ≤ℤ pos 4000
   pub down : negsuc 3999 ≤ℤ t.up
   pub high : t.up ≤ℤ pos 4000
-
-unfoldable pub rank : Triple → ℕ
-rank t = nat_abs (t.turn +ℤ pos 1) * 64016001 + nat_abs (t.across +ℤ pos 4000) * 8001 + nat_abs (t.up +ℤ pos 4000)
 
 pub boxed_of : (p : Placement) → Boxed (triple p)
 boxed_of p =

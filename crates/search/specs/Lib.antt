@@ -1,2 +1,4 @@
 pub mod Scenes
 pub mod Steps
+pub mod Ranks
+pub mod Walks

@@ -2,5 +2,6 @@
 #![tactic(auto)]
 
 pub mod first;
+pub mod listing;
 pub mod places;
 pub mod scene;

@@ -1,78 +1,43 @@
-// All places in order: how many there are, which has a number, and their list.
-ghost use Rattle.std.specs.Prelude.{◌≡◌, ℕ, ◌<◌, ◌≤◌, min, List, ◌++◌, length, take, drop, MatchResult, OnErr};
-ghost use Rattle.lattice.specs.Refusals.{number as Number};
-ghost use Rattle.grammar.specs.Numbers.{nth as Nth, ordinal as Ordinal};
-ghost use Rattle.search.specs.Scenes.{Listed};
+// The places of a left side, one after the other.
+ghost use Rattle.std.specs.Prelude.{◌≡◌, ◌-◌};
+ghost use Rattle.std.specs.Iterator.{at_most};
+ghost use Rattle.search.specs.Ranks.{rank};
+ghost use Rattle.search.specs.Walks.{reached as Reached, Gives};
+ghost use Rattle.search.specs.Steps.{bound as Bound};
 
 use crate::scene::Scene;
-use grammar::ordinal::ordinal;
 use kinds::kind::Kind;
 use lattice::placement::Placement;
-use lattice::refusal::Refusal;
 
-impl<'a, M: Kind, C: Kind> Scene<'a, M, C> {
-    // How many places the left side has.
-    pub fn count(&self) -> u32
-        ensures { (ps : List Placement) → Listed M.Kind.model C.Kind.model self.now ps → result ≡ length ps }
-    {
-        let mut last = (-1, 0, 0);
-        let mut found = 0;
-        while let Some(p) = self.next(last) {
-            found += 1;
-            last = p.numbers();
-        }
-        found
+// The places that come after the last one that was given.
+#[derive(Drop)]
+pub struct Places<'s, 'a, M, C> {
+    pub(crate) scene: &'s Scene<'a, M, C>,
+    pub(crate) last: Option<Placement>,
+}
+
+// The numbers of the last place, or numbers that stand before those of all.
+fn reached(last: Option<Placement>) -> (i32, i32, i32)
+    ensures { Bound result ≡ Reached last }
+{
+    match last {
+        Some(p) => p.numbers(),
+        None => (-1, 0, 0),
     }
+}
 
-    // The place with a number.
-    fn nth(&self, k: u32) -> Option<Placement>
-        ensures { (ps : List Placement) → Listed M.Kind.model C.Kind.model self.now ps → result ≡ Nth ps k }
-    {
-        let mut last = (-1, 0, 0);
-        let mut n = 0;
-        while let Some(p) = self.next(last) {
-            n += 1;
-            if n == k {
-                return Some(p);
-            }
-            last = p.numbers();
-        }
-        None
-    }
+impl<'s, 'a, M: Kind, C: Kind> Iterator for Places<'s, 'a, M, C> {
+    type Item = Placement;
 
-    // The place with a number, counted from 1, which may be any number.
-    pub fn place(&self, k: i32) -> Option<Placement>
-        ensures { (ps : List Placement) → Listed M.Kind.model C.Kind.model self.now ps → result ≡ Nth ps (Ordinal k) }
-    {
-        self.nth(ordinal(k))
-    }
+    ghost can_next = { λ s. Unit {0} };
 
-    // Writes the places in order, as many as there is room for, and says how many.
-    fn write(&self, out: &mut [Placement]) -> usize
-        ensures { (ps : List Placement) → Listed M.Kind.model C.Kind.model self.now ps → (result ≡ min (length ps) (length out.old)) × (out.new ≡ take result ps ++ drop result out.old) }
-    {
-        let mut last = (-1, 0, 0);
-        for (n, slot) in out.iter_mut().enumerate() {
-            match self.next(last) {
-                Some(p) => {
-                    *slot = p;
-                    last = p.numbers();
-                }
-                None => return n,
-            }
-        }
-        out.len()
-    }
+    ghost next_gives = { λ s r t. Gives M.Kind.model C.Kind.model s r t };
 
-    // Writes all places from the front of the buffer and says how many; the rest remains. All of it remains if they do not fit.
-    pub fn list(&self, out: &mut [Placement]) -> Result<usize, Refusal>
-        ensures answer { (ps : List Placement) → Listed M.Kind.model C.Kind.model self.now ps → MatchResult result (λ n. (n ≡ length ps) × (length ps ≤ length out.old) × (out.new ≡ ps ++ drop (length ps) out.old)) (λ e. (Number e ≡ 20) × (length out.old < length ps) × (out.new ≡ out.old)) }
-        ensures kept { OnErr result (out.new ≡ out.old) }
-    {
-        let n = self.count() as usize;
-        if n > out.len() {
-            return Err(Refusal::BufferFull);
-        }
-        Ok(self.write(out))
+    ghost remaining = { λ s. at_most (576144009 - rank (Reached s.last)) };
+
+    fn next(&mut self) -> Option<Placement> {
+        let p = self.scene.next(reached(self.last))?;
+        self.last = Some(p);
+        Some(p)
     }
 }

@@ -2,9 +2,8 @@
 use Rattle.std.proofs.Common.{◌≡◌, List, ◌++◌, take, drop}
 use Rattle.lattice.specs.declared.placement.Placement.{Placement}
 use Rattle.search.specs.Scenes.{Listed}
-use Rattle.search.specs.Steps.{bound}
-use Rattle.search.proofs.Counting.{Passed}
+use Rattle.search.proofs.Walking.{Given}
 use Rattle.search.proofs.scene.Scene.write.Given as goal
 
 abbrev pub invariant-loop-n : goal.invariant-loop-n
-invariant-loop-n g l = (ps : List Placement) → Listed g.M.Kind.model g.C.Kind.model l.self ps → Passed ps (bound l.last) l.n × (l.out ≡ take l.n ps ++ drop l.n l.initial.out)
+invariant-loop-n g l = (ps : List Placement) (h : Listed g.M.Kind.model g.C.Kind.model l.self ps) → Given g.M.Kind.model g.C.Kind.model l.self ps h l.places l.n × (l.out ≡ take l.n ps ++ drop l.n l.initial.out)
