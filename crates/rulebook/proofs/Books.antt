@@ -47,10 +47,6 @@ module _ {EM AM CM EC Ac CC : Type 0} (M : KindModel EM AM CM) (C : KindModel EC
   side_again rs y s u e k =
       subst (λ (ss : List SideRecord). KeptSide M C ss u) (ap (λ (r : SideRecord). map this rs ++ (r ∷ [])) (sym e) ∙ sym (map-append this rs (y ∷ []))) k
 
-  -- the rules, with the latest apart
-  pub rules_parted : (t w : SideTables EM EC) (rs : List RuleRecord) (x : RuleRecord) → map (rule_at t w) (rs ++ (x ∷ [])) ≡ map (rule_at t w) rs ++ (rule_at t w x ∷ [])
-  rules_parted t w rs x = map-append (rule_at t w) rs (x ∷ [])
-
   -- how many elements the earlier rules have on that side
   module _ (t w : SideTables EM EC) (read : Rule EM EC → Side EM EC) (reads : (a b : Side EM EC) → read (build a b) ≡ a) where
     sum_marks : (rs : List RuleRecord) → sum_by (λ r. length (read r).marks) (map (rule_at t w) rs) ≡ sum_by (λ s. length (stretch_of t.marks.slots.now s)) (map (λ (s : SideRecord). s.marks) (map this rs))

@@ -4,7 +4,6 @@ use Rattle.std.specs.List.{HoldsAt}
 use Rattle.std.specs.Option.{option_copied}
 use Rattle.std.proofs.lemmas.List.{length-take, get_or-take}
 use Rattle.grammar.specs.Numbers.{nth}
-use Rattle.grammar.proofs.Numbers.{nth_zero}
 use Rattle.grammar.proofs.Searching.{nth_index, nth_past}
 use Rattle.rulebook.specs.Rulebooks.{rules_of, rule_of, kept, Finds, NoNumber, HasNumber}
 use Rattle.rulebook.specs.declared.records.RuleRecord.{RuleRecord}
@@ -24,9 +23,6 @@ module _ {X Y : Type 0} (f : X → Y) where
   some_mapped (x ∷ xs) (suc (suc r)) y h = some_mapped xs (suc r) y h
 
 module _ {X : Type 0} where
-  pub none_at_zero : (xs : List X) (c r : ℕ) → r ≡ 0 → nth (take c xs) r ≡ None
-  none_at_zero xs c r e = ap (nth (take c xs)) e ∙ nth_zero (take c xs)
-
   pub none_past : (xs : List X) (c r : ℕ) → min c (length xs) < r → nth (take c xs) r ≡ None
   none_past xs c r h =
       let l = length-take c xs in

@@ -1,15 +1,15 @@
 -- A sum on the end of a table.
-use Rattle.std.proofs.Common.{◌≡◌, ℕ, ◌+◌, ◌-◌, ◌≤◌, min, List, length, take, drop, sym, ap, ◌∙◌, subst, arith, length-drop}
+use Rattle.std.proofs.Common.{◌≡◌, ℕ, ◌-◌, ◌≤◌, min, List, length, take, drop, sym, ap, ◌∙◌, subst, arith, length-drop}
 use borrow.Rule.Slice.PartMut.{put_mid, same_len_mid, put_same}
 use borrow.Rule.Slice.Mut.{set_vals}
 use Rattle.std.proofs.lemmas.List.{take_rest}
-use Rattle.std.proofs.lemmas.Slice.{take-put_mid_below, between-put_mid}
+use Rattle.std.proofs.lemmas.Slice.{between-put_mid}
 use Rattle.lattice.specs.declared.refusal.Refusal.{Refusal}
 use Rattle.kinds.specs.Model.{KindModel, covers}
 use Rattle.sheets.specs.Cover.{union, cover, canonical}
-use Rattle.sheets.specs.Maximal.{Lists, Counts}
-use Rattle.sheets.specs.Slots.{SlotsBecame, SlotsStayed}
-use Rattle.rulebook.specs.Tables.{latest, Tidy, Grew, Stayed}
+use Rattle.sheets.specs.Maximal.{Counts}
+use Rattle.sheets.specs.Slots.{SlotsStayed}
+use Rattle.rulebook.specs.Tables.{latest, Tidy, Stayed}
 use Rattle.rulebook.specs.declared.table.Table.{Table}
 
 -- the end of a list from a on
@@ -46,37 +46,6 @@ module _ {E A C : Type 0} (m : KindModel E A C) where
       let g = d.high in
       let same : f ≡ t.from = omega arith in
       ap (take count) (take_rest t.slots.now f) ∙ ap (λ (n : ℕ). take n (drop f t.slots.now)) (omega arith) ∙ ap (λ (n : ℕ). take (t.used - t.from) (drop n t.slots.now)) same
-
-  pub sum_grew : (e : E) (t u : Table E) (f count n : ℕ) (sub : List E) → Start t f → Count t f count → length sub ≡ length (tail_of f t.slots.now) → SlotsBecame m count e n (tail_of f t.slots.now) sub → u.slots.now ≡ with_tail f t.slots.now sub → u.from ≡ t.from → u.used ≡ f + n → Grew m e t u
-  sum_grew e t u f count n sub h k l b now from used =
-      let xs = t.slots.now in
-      let room : length u.slots.now ≡ length xs = ap length now ∙ with_tail_length f xs sub l in
-      let short : f ≤ length xs = omega arith in
-      let some = b.within in
-      let fits : f + n ≤ length xs = omega (arith, tail_length f xs) in
-      record {
-        room = room;
-        front = λ d. (let lo = d.low in let hi = d.high in ap (take t.from) now ∙ take-put_mid_below f (length xs - f) xs sub t.from (omega arith) short);
-        from = from;
-        tidy = λ d. record { low = (let lo = d.low in let hi = d.high in omega arith); high = omega arith; few = (let p = d.few in omega arith); ordered = (listed d).ordered };
-        list = listed;
-      } where
-        now_latest : Tidy m t → latest u ≡ take n sub
-        now_latest d =
-            let lo = d.low in
-            let hi = d.high in
-            let short : f ≤ length t.slots.now = omega arith in
-            ap (λ (i : ℕ). take i (drop u.from u.slots.now)) (omega arith) ∙
-            ap (λ (i : ℕ). take n (drop i u.slots.now)) (omega arith) ∙
-            ap (λ (z : List E). take n (drop f z)) now ∙ ap (take n) (tail_with f t.slots.now sub short l)
-
-        listed : Tidy m t → Lists m (union (cover m (latest t)) (covers m e)) (latest u)
-        listed d =
-            let w = was_latest t f count h k d in
-            let p = d.few in
-            let made = b.list (ap (canonical m) w ∙ d.ordered) (omega (arith, tail_length f t.slots.now)) in
-            subst (Lists m (union (cover m (latest t)) (covers m e))) (sym (now_latest d))
-            (subst (λ (z : List E). Lists m (union (cover m z) (covers m e)) (take n sub)) w made)
 
   pub sum_stayed : (e : E) (why : Refusal) (t u : Table E) (f count : ℕ) (sub : List E) → Start t f → Count t f count → SlotsStayed m count e why (tail_of f t.slots.now) sub → u ≡ record { slots = set_vals (with_tail f t.slots.now sub) t.slots; from = t.from; used = t.used } → Stayed m e why t u
   sum_stayed e why t u f count sub h k b now = record {

@@ -92,7 +92,3 @@ number_index xs n x e =
     let l = number_within xs (n + 1) x e in
     let h : n < length xs = omega arith in
     (h, some_one (sym (nth_index xs n x h) ∙ ap (nth xs) (sym (add-one n)) ∙ e))
-
-pub number_none : {A : Type 0} (xs : List A) (n k : ℕ) → n ≡ length xs → (0 < k → n < k) → nth xs k ≡ None
-number_none xs n zero e h = nth_zero xs
-number_none xs n (suc k) e h = let l = h (omega arith) in number_past xs (suc k) (omega (arith, e))

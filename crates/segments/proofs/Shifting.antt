@@ -53,9 +53,6 @@ sizes s a l h =
     record { x = more (across s a.x a.y) p.0; y = more (upward s a.x a.y) p.1; dx = q.0; dy = q.1; left = subst (λ (z : Edge). ranged z.x ≡ true) (turned_is s a l) w.0; low = subst (λ (z : Edge). ranged z.y ≡ true) (turned_is s a l) w.1 }
 
 -- ---- shifts
-pub not_from : (s : ℕ) (a b : Edge) → ends_lie a ≡ false → Shifts segment_model s a b None
-not_from s a b h f g u v e = both_ways _ h (and_parts (ends_lie a) _ f).0
-
 pub not_forward : (s : ℕ) (a b : Edge) → forward a.dx a.dy ≡ false → Shifts segment_model s a b None
 not_forward s a b h f g u v e = both_ways _ h (and_parts (forward a.dx a.dy) _ (and_parts (ends_lie a) _ f).1).0
 
@@ -64,9 +61,6 @@ not_across s a b l h f g u v e = h (ap (λ (z : Edge). z.dx) (sym (image_shift s
 
 pub not_up : (s : ℕ) (a b : Edge) → s < 8 → ((edge_image s (pos 0) (pos 0) a).dy ≡ b.dy → ⊥) → Shifts segment_model s a b None
 not_up s a b l h f g u v e = h (ap (λ (z : Edge). z.dy) (sym (image_shift s u v a l) ∙ e))
-
-pub not_to : (s : ℕ) (a b : Edge) → edge_field b ≡ false → Shifts segment_model s a b None
-not_to s a b h f g u v e = both_ways _ h g
 
 again : (p q u : ℤ) → u ≡ p -ℤ q → q +ℤ u ≡ p
 again p q u h = omega (arith, ints)
