@@ -49,7 +49,10 @@ fn redraw(sheet: &mut Sheet<Segment>) -> Result<(), Refusal> {
 }
 
 // The least time of sixteen rounds.
-fn least<F: FnMut() -> anyhow::Result<()>>(clock: &impl Clock, mut round: F) -> anyhow::Result<u128>
+fn least_time<F: FnMut() -> anyhow::Result<()>>(
+    clock: &impl Clock,
+    mut round: F,
+) -> anyhow::Result<u128>
     requires { F.IsAlwaysCallable round }
 {
     let mut least = u128::MAX;
@@ -66,11 +69,11 @@ fn measure(rt: &HostRuntime, cuts: u32) -> anyhow::Result<(u128, u128)> {
     let mut slots = vec![in rt.alloc(); must(cut(0))?; cuts as usize]?;
     let mut sheet = must(Sheet::new(slots.as_mut_slice()))?;
     must(fill(&mut sheet, cuts))?;
-    let questions = least(rt, || match ask(&sheet, cuts) {
+    let questions = least_time(rt, || match ask(&sheet, cuts) {
         512 => Ok(()),
         _ => Err(anyhow!("a cut is not found")),
     })?;
-    let draws = least(rt, || must(redraw(&mut sheet)))?;
+    let draws = least_time(rt, || must(redraw(&mut sheet)))?;
     let count = sheet.count();
     let atoms = sheet.atoms();
     println!(rt; "{cuts} cuts drawn: {count} elements, {atoms} atoms")?;

@@ -14,7 +14,7 @@ use Rattle.sheet_sums.proofs.Steps.{Stepwise, lists_at, lists_self}
 use Rattle.sheet_sums.proofs.Summed.{sum, sum_lists}
 use Rattle.sheet_sums.proofs.Lessened.{less, less_lists}
 
--- of the first, the atoms stay
+-- a change that leaves each atom as it was
 abbrev keep : Bool → Bool → Bool
 keep s t = s
 

@@ -21,7 +21,7 @@ pub const MOST_SLOTS: usize = 4096;
 
 // The slots are the caller's, since the library owns no memory; the first `count` of them hold elements. That a sheet is sound
 // is said in the clauses and not by the type: `sum_into` makes a sheet over slots of which nothing is known, and a fact of the
-// type would have to hold at every write through the lent slots, so also between the writes of one change.
+// type would have to hold at every write through the lent slots too, so each change would have to lower the count first.
 // The clause `lender` says that the slots stay those that were lent, whatever a call answers: so it is not part of one case.
 #[derive(Drop)]
 pub struct Sheet<'a, K> {
