@@ -8,7 +8,6 @@ use Rattle.kinds.specs.Model.{KindModel}
 use Rattle.elements.specs.declared.point.Point.{Point}
 use Rattle.elements.specs.declared.point.LatticePoint.{LatticePoint}
 use Rattle.elements.specs.declared.ink.Ink.{Ink}
-use Rattle.elements.specs.declared.ink.Inked.{Inked}
 use Rattle.elements.specs.Points.{point_model, point}
 use Rattle.elements.specs.Inks.{ink_model}
 use Rattle.segments.specs.declared.segment.Segment.{Segment}
@@ -25,10 +24,10 @@ Mark = Ink Point
 abbrev pub Cut : Type 0
 Cut = Ink Segment
 
-abbrev pub marks : KindModel Mark (Inked LatticePoint) (Inked (ℤ × ℤ))
+abbrev pub marks : KindModel Mark (Ink LatticePoint) (Ink (ℤ × ℤ))
 marks = ink_model point_model
 
-abbrev pub cuts : KindModel Cut (Inked Edge) (Inked (ℤ × ℤ × ℤ))
+abbrev pub cuts : KindModel Cut (Ink Edge) (Ink (ℤ × ℤ × ℤ))
 cuts = ink_model segment_model
 
 -- what is there

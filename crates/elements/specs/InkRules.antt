@@ -11,7 +11,6 @@ use Rattle.kinds.specs.Model.{KindModel, covers, moved}
 use Rattle.kinds.specs.Rules.{Rules, Covers, Touch, Union, Slice}
 use Rattle.elements.specs.Inks.{ink_model, inked, with_ink}
 use Rattle.elements.specs.declared.ink.Ink.{Ink}
-use Rattle.elements.specs.declared.ink.Inked.{Inked}
 use Rattle.elements.specs.Orders.{ordered_numbers, ordered_then, equal_from, then_equal}
 
 abbrev pub on_ink : {E : Type 0} → ℕ → E → Ink E
@@ -44,14 +43,14 @@ same_from n k h = let e = ordered_numbers.same (pos n) (pos k) (equal_from _ h) 
 
 module _ {E A C : Type 0} (m : KindModel E A C) where
   -- an element with ink covers what it covers without, with that ink
-  pub ink_covers : (e : Ink E) (a : Inked A) → covers (ink_model m) e a ≡ (same e.ink a.ink && covers m e.under a.under)
+  pub ink_covers : (e : Ink E) (a : Ink A) → covers (ink_model m) e a ≡ (same e.ink a.ink && covers m e.under a.under)
   unfolding covers
   ink_covers e a =
       let t = then_equal (ordering (pos e.ink) (pos a.ink)) (m.order (m.carrier e.under) (m.on a.under)) in
       let z = int_le (m.start e.under) (m.at a.under) && lt_z (m.at a.under) (m.end e.under) in
       (λ i. m.proper a.under && (t i && z)) ∙ front (m.proper a.under) (same e.ink a.ink) (is_eq (m.order (m.carrier e.under) (m.on a.under))) z
 
-  pub beneath : (e : Ink E) (a : Inked A) → Covers (ink_model m) e a → (e.ink ≡ a.ink) × Covers m e.under a.under
+  pub beneath : (e : Ink E) (a : Ink A) → Covers (ink_model m) e a → (e.ink ≡ a.ink) × Covers m e.under a.under
   beneath e a c = let p = and_parts (same e.ink a.ink) _ (sym (ink_covers e a) ∙ c) in (same_from e.ink a.ink p.0, p.1)
 
   pub above : (n : ℕ) (e : E) (a : A) → Covers m e a → Covers (ink_model m) (on_ink n e) (inked n a)
@@ -70,7 +69,7 @@ module _ {E A C : Type 0} (m : KindModel E A C) where
 
   -- elements with ink touch where the inks are equal and the elements touch without
   pub touch_under : (d e : Ink E) → Touch (ink_model m) d e → (d.ink ≡ e.ink) × Touch m d.under e.under
-  touch_under d e t = (ap (λ (c : Inked C). c.ink) t.same, record { same = ap (λ (c : Inked C). c.under) t.same; left = t.left; right = t.right })
+  touch_under d e t = (ap (λ (c : Ink C). c.ink) t.same, record { same = ap (λ (c : Ink C). c.under) t.same; left = t.left; right = t.right })
 
   pub touch_over : (d e : Ink E) → d.ink ≡ e.ink → Touch m d.under e.under → Touch (ink_model m) d e
   touch_over d e i t = let c = t.same in record { same = λ j. inked (i j) (c j); left = t.left; right = t.right }
@@ -94,7 +93,7 @@ module _ {E A C : Type 0} (m : KindModel E A C) where
   with_none n o h = elim (placing n o) [ there g p q ↦ let z : ◌≡◌ {A = ℕ} 0 1 = cc in absurd (omega arith) | gone p q ↦ p ]
 
   module _ (r : Rules m) where
-    ink_alike : (d e : Ink E) → ((a : Inked A) → covers (ink_model m) d a ≡ covers (ink_model m) e a) → d ≡ e
+    ink_alike : (d e : Ink E) → ((a : Ink A) → covers (ink_model m) d a ≡ covers (ink_model m) e a) → d ≡ e
     ink_alike d e h =
         let w = r.some d.under in
         let b = beneath e (inked d.ink w.0) (sym (h (inked d.ink w.0)) ∙ above d.ink d.under w.0 w.1) in
@@ -107,7 +106,7 @@ module _ {E A C : Type 0} (m : KindModel E A C) where
           under_same : (a : A) → d.ink ≡ e.ink → covers m d.under a ≡ covers m e.under a
           under_same a q = sym (plain d e.ink a q) ∙ h (inked e.ink a) ∙ plain e e.ink a refl
 
-    ink_placed : (p : Placement) (e f : Ink E) → (ink_model m).place p e ≡ Some f → (b : Inked A) → Covers (ink_model m) f b ↔ ((a : Inked A) × Covers (ink_model m) e a × (moved (ink_model m) p a ≡ b))
+    ink_placed : (p : Placement) (e f : Ink E) → (ink_model m).place p e ≡ Some f → (b : Ink A) → Covers (ink_model m) f b ↔ ((a : Ink A) × Covers (ink_model m) e a × (moved (ink_model m) p a ≡ b))
     ink_placed p e f h b =
         let s = with_some e.ink (m.place p e.under) f h in
         let n = s.1 in
@@ -121,8 +120,8 @@ module _ {E A C : Type 0} (m : KindModel E A C) where
           λ w.
               let k = beneath e w.0 w.1 in
               let q = w.2 in
-              let c = t.1 (w.0.under, k.1, ap (λ (x : Inked A). x.under) q) in
-              let i : f.ink ≡ b.ink = sym n ∙ k.0 ∙ ap (λ (x : Inked A). x.ink) q in
+              let c = t.1 (w.0.under, k.1, ap (λ (x : Ink A). x.under) q) in
+              let i : f.ink ≡ b.ink = sym n ∙ k.0 ∙ ap (λ (x : Ink A). x.ink) q in
               subst (λ (x : ℕ). Covers (ink_model m) f (inked x b.under)) i (above f.ink f.under b.under c),
         )
 
@@ -133,8 +132,8 @@ module _ {E A C : Type 0} (m : KindModel E A C) where
       alike = ink_alike;
       ordered = ordered_then (λ a. pos a.ink) (λ a. a.under) (λ a b h k. let i : a.ink ≡ b.ink = omega (arith, ints) in λ j. record { ink = i j; under = k j }) ordered_numbers r.ordered;
       apart = λ a b h k c t.
-          let i = ap (λ (x : Inked C). x.ink) c in
-          let u = r.apart a.under b.under h k (ap (λ (x : Inked C). x.under) c) t in
+          let i = ap (λ (x : Ink C). x.ink) c in
+          let u = r.apart a.under b.under h k (ap (λ (x : Ink C). x.under) c) t in
           λ j. record { ink = i j; under = u j };
       atoms = λ a h. r.atoms a.under h;
       low = λ a h. r.low a.under h;
@@ -153,6 +152,6 @@ module _ {E A C : Type 0} (m : KindModel E A C) where
             λ h. let w = t.0 (with_none e.ink (m.place p e.under) h) in (inked e.ink w.0, above e.ink e.under w.0 w.1, w.2),
             λ w. ap (with_ink e.ink) (t.1 (w.0.under, (beneath e w.0 w.1).1, w.2)),
           );
-      one = λ s u v p q a b l h d e. r.one s u v p q a.under b.under l h (ap (λ (x : Inked A). x.under) d) (ap (λ (x : Inked A). x.under) e);
-      near = λ s u v a b l h k e. r.near s u v a.under b.under l h k (ap (λ (x : Inked A). x.under) e);
+      one = λ s u v p q a b l h d e. r.one s u v p q a.under b.under l h (ap (λ (x : Ink A). x.under) d) (ap (λ (x : Ink A). x.under) e);
+      near = λ s u v a b l h k e. r.near s u v a.under b.under l h k (ap (λ (x : Ink A). x.under) e);
     }

@@ -8,9 +8,8 @@ use Rattle.lattice.specs.Refusals.{number}
 use Rattle.lattice.specs.declared.refusal.Refusal.{Refusal}
 use Rattle.kinds.specs.Model.{KindModel}
 use Rattle.elements.specs.declared.ink.Ink.{Ink}
-use Rattle.elements.specs.declared.ink.Inked.{Inked}
 
-abbrev pub inked : {C : Type 0} → ℕ → C → Inked C
+abbrev pub inked : {C : Type 0} → ℕ → C → Ink C
 inked n c = record { ink = n; under = c }
 
 -- an element with ink on it, if there is an element
@@ -19,10 +18,10 @@ with_ink n None = None
 with_ink n (Some e) = Some (record { ink = n; under = e })
 
 -- by ink first
-abbrev pub ink_order : {C : Type 0} → (C → C → Ordering) → Inked C → Inked C → Ordering
+abbrev pub ink_order : {C : Type 0} → (C → C → Ordering) → Ink C → Ink C → Ordering
 ink_order below a b = ordering_then (ordering (pos a.ink) (pos b.ink)) (below a.under b.under)
 
-abbrev pub ink_model : {E A C : Type 0} → KindModel E A C → KindModel (Ink E) (Inked A) (Inked C)
+abbrev pub ink_model : {E A C : Type 0} → KindModel E A C → KindModel (Ink E) (Ink A) (Ink C)
 ink_model m = record {
   carrier = λ e. inked e.ink (m.carrier e.under);
   start = λ e. m.start e.under;

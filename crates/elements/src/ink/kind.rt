@@ -2,23 +2,23 @@
 ghost use Rattle.elements.specs.Inks.{ink_model as InkModel};
 ghost use Rattle.elements.specs.InkRules.{ink_rules};
 
-use crate::ink::{Ink, Inked};
+use crate::ink::Ink;
 use kinds::kind::Kind;
 use lattice::placement::Placement;
 use lattice::turn::Turn;
 use std::cmp::Ordering;
 
 impl<K: Kind> Kind for Ink<K> {
-    type Carrier = Inked<K::Carrier>;
+    type Carrier = Ink<K::Carrier>;
 
-    type Atom = Inked<K::Atom>;
+    type Atom = Ink<K::Atom>;
 
     ghost model = { InkModel K.Kind.model };
 
     ghost rules = { ink_rules K.Kind.model K.Kind.rules };
 
-    fn carrier(&self) -> Inked<K::Carrier> {
-        Inked {
+    fn carrier(&self) -> Ink<K::Carrier> {
+        Ink {
             ink: self.ink,
             under: self.under.carrier(),
         }
@@ -56,9 +56,9 @@ impl<K: Kind> Kind for Ink<K> {
         })
     }
 
-    fn atom(&self, at: i32) -> Option<Inked<K::Atom>> {
+    fn atom(&self, at: i32) -> Option<Ink<K::Atom>> {
         let under = self.under.atom(at)?;
-        Some(Inked {
+        Some(Ink {
             ink: self.ink,
             under,
         })
@@ -72,7 +72,7 @@ impl<K: Kind> Kind for Ink<K> {
         })
     }
 
-    fn shifts(turn: Turn, from: Inked<K::Atom>, to: Inked<K::Atom>) -> Option<(i32, i32)> {
+    fn shifts(turn: Turn, from: Ink<K::Atom>, to: Ink<K::Atom>) -> Option<(i32, i32)> {
         if from.ink != to.ink {
             return None;
         }
