@@ -75,7 +75,8 @@ impl Line {
 
     // How many bytes it has.
     pub(crate) fn len(&self) -> usize
-        ensures { result ≡ length self.now }
+        ensures value { result ≡ length self.now }
+        ensures few { result ≤ 64 }
     {
         self.bytes.len()
     }

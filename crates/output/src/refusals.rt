@@ -1,4 +1,5 @@
 // The line that tells of a refusal: `refused N line L`.
+ghost use Rattle.std.specs.Prelude.{◌≤◌, length, IsOk};
 ghost use Rattle.output.specs.Lines.{refusal_line as RefusalLine};
 ghost use Rattle.output.specs.Shown.{Shown};
 
@@ -6,9 +7,10 @@ use crate::inscribed::Inscribed;
 use lattice::refusal::Refusal;
 use notation::refused::Refused;
 
-// Writes the line into the front of the buffer and answers how many bytes it has.
+// Writes the line into the front of the buffer and answers how many bytes it has, which are no more than 64.
 pub fn refusal_line(refused: Refused, out: &mut [u8]) -> Result<usize, Refusal>
-    ensures { Shown (RefusalLine refused) out.old out.new result }
+    ensures shown { Shown (RefusalLine refused) out.old out.new result }
+    ensures short { 64 ≤ length out.old → IsOk result }
 {
     let line = refused.line();
     if line.len() > out.len() {

@@ -11,24 +11,41 @@ use reading::reader::Reader;
 // The most bytes that a file may have.
 pub const LONGEST: usize = 65536;
 
-// The contents of a file, and where its first body begins.
+// A file, its contents, and where its first body begins.
 #[derive(Clone, Copy)]
-pub struct Listing {
+pub struct Listing<'a> {
+    pub file: &'a [u8],
     pub contents: Contents,
     pub bodies: usize,
 }
 
+impl<'a> Listing<'a> {
+    // Where the start ends and the first rule begins.
+    pub(crate) fn rules_from(&self) -> usize {
+        self.bodies.saturating_add(self.contents.start as usize)
+    }
+
+    // Where the steps begin, which are the last of the file.
+    pub(crate) fn steps_from(&self) -> usize {
+        self.file.len().saturating_sub(self.contents.steps as usize)
+    }
+}
+
+// How many bytes each rule has.
+pub(crate) fn rule_lengths(contents: &Contents) -> &[u32] {
+    &contents.rules[..contents.count.min(32)]
+}
+
 // How many bytes the bodies have together.
 fn total(contents: &Contents) -> u64 {
-    let mut sum = contents.start as u64 + contents.steps as u64;
-    for i in 0..contents.count {
-        sum = sum.saturating_add(contents.rules[i] as u64);
-    }
-    sum
+    let ends = u64::from(contents.start) + u64::from(contents.steps);
+    rule_lengths(contents)
+        .iter()
+        .fold(ends, |sum, &n| sum.saturating_add(u64::from(n)))
 }
 
 // The file's listing, or the refusal of a file that has none.
-pub fn read_listing(file: &[u8]) -> Result<Listing, Refused> {
+pub fn read_listing(file: &[u8]) -> Result<Listing<'_>, Refused> {
     if file.len() > LONGEST || !opens(file) {
         return Err(Refused {
             refusal: Refusal::NotAGrammar,
@@ -46,6 +63,7 @@ pub fn read_listing(file: &[u8]) -> Result<Listing, Refused> {
         });
     }
     Ok(Listing {
+        file,
         contents,
         bodies: file.len().saturating_sub(left),
     })
