@@ -1,19 +1,17 @@
-// The bodies of a file, each line carried out before the next is read.
+// The bodies of a file, carried out line by line.
 ghost use Rattle.std.specs.Prelude.{◌≡◌};
 ghost use Rattle.run.specs.declared.bodies.Stop.TheVariants.{Refused as Refuses};
 
 use crate::listing::{Listing, rule_lengths};
+use crate::tables::BothSheets;
 use commands::{Cut, Mark, SideLine, StepLine};
-use kinds::kind::Kind;
 use lattice::refusal::Refusal;
 use notation::refused::Refused;
 use parsing::strokes::{read_side, read_step, read_stroke};
 use reading::line::Line;
 use reading::reader::Reader;
 use rulebook::rulebook::Rulebook;
-use rulebook::stroke::Stroke;
 use rulebook::table::Stretch;
-use sheets::sheet::Sheet;
 
 // Why a run ends before its output: it is refused, or it comes to a pick, which no layer below carries out yet.
 #[derive(Clone, Copy)]
@@ -46,6 +44,19 @@ fn ended<'a>(line: Line<'a>) -> Result<&'a [u8], Refusal> {
     }
 }
 
+// Carries out each line of a body before the next is read. A refusal tells its line.
+fn carry_lines<F: FnMut(Line) -> Result<(), Refusal>>(
+    mut reader: Reader,
+    mut carry: F,
+) -> Result<(), Stop>
+    requires { F.IsAlwaysCallable carry }
+{
+    while let Some(line) = reader.next_line() {
+        carry(line).map_err(|refusal| refused_at(refusal, line.number))?;
+    }
+    Ok(())
+}
+
 // One line of a rule.
 fn carry_side(line: Line, book: &mut Rulebook<Mark, Cut>) -> Result<(), Refusal> {
     match read_side(ended(line)?)? {
@@ -54,45 +65,24 @@ fn carry_side(line: Line, book: &mut Rulebook<Mark, Cut>) -> Result<(), Refusal>
     }
 }
 
-// The lines of a rule.
-fn carry_rule(mut reader: Reader, book: &mut Rulebook<Mark, Cut>) -> Result<(), Stop> {
-    while let Some(line) = reader.next_line() {
-        carry_side(line, book).map_err(|refusal| refused_at(refusal, line.number))?;
-    }
-    Ok(())
-}
-
 // All rules, in order.
 pub fn carry_rules(listing: &Listing, book: &mut Rulebook<Mark, Cut>) -> Result<(), Stop> {
     let mut from = listing.rules_from();
     for &length in rule_lengths(&listing.contents) {
         let to = from.saturating_add(length as usize);
         book.rule().map_err(|refusal| refused_at(refusal, 0))?;
-        carry_rule(Reader::part(listing.file, from, to), book)?;
+        carry_lines(Reader::part(listing.file, from, to), |line| {
+            carry_side(line, book)
+        })?;
         from = to;
     }
     Ok(())
 }
 
-// One line of the start.
-fn carry_stroke(line: Line, marks: &mut Sheet<Mark>, cuts: &mut Sheet<Cut>) -> Result<(), Refusal> {
-    match read_stroke(ended(line)?)? {
-        Stroke::Mark(e) => marks.add(e),
-        Stroke::Cut(e) => cuts.add(e),
-    }
-}
-
 // The start.
-pub fn carry_start(
-    listing: &Listing,
-    marks: &mut Sheet<Mark>,
-    cuts: &mut Sheet<Cut>,
-) -> Result<(), Stop> {
-    let mut reader = Reader::part(listing.file, listing.bodies, listing.rules_from());
-    while let Some(line) = reader.next_line() {
-        carry_stroke(line, marks, cuts).map_err(|refusal| refused_at(refusal, line.number))?;
-    }
-    Ok(())
+pub fn carry_start(listing: &Listing, drawn: &mut BothSheets) -> Result<(), Stop> {
+    let reader = Reader::part(listing.file, listing.bodies, listing.rules_from());
+    carry_lines(reader, |line| drawn.add(read_stroke(ended(line)?)?))
 }
 
 // Whether a stretch has no slot.
