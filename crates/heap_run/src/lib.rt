@@ -19,7 +19,7 @@ use std::alloc::{AllocError, Global};
 const SLOTS: usize = 1024;
 
 // The most bytes that the text of a drawing may have.
-pub const LONGEST: usize = 65536;
+pub const LONGEST_TEXT: usize = 65536;
 
 // Something to fill the tables of marks with.
 fn any_mark() -> Mark {
@@ -62,9 +62,9 @@ fn carry_into(heap: Global, file: &[u8], out: &mut [u8]) -> Result<Result<usize,
 
 // Carries out the file, and answers the text of the drawing that it leaves.
 pub fn carry_out(heap: Global, file: &[u8]) -> Result<Result<Vec<u8>, Stop>, AllocError>
-    ensures { IfOk result (λ answer. IfOk answer (λ text. vec_len text ≤ LONGEST)) }
+    ensures { IfOk result (λ answer. IfOk answer (λ text. vec_len text ≤ LONGEST_TEXT)) }
 {
-    let mut text = buffer(heap, LONGEST)?;
+    let mut text = buffer(heap, LONGEST_TEXT)?;
     match carry_into(heap, file, text.as_mut_slice())? {
         Ok(n) => {
             text.truncate(n);

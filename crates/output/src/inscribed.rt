@@ -6,7 +6,7 @@ use crate::line::Line;
 use commands::{Cut, Mark};
 use notation::refused::Refused;
 
-// The words of the lines.
+// The words of the lines, as byte strings of fixed length: the format is one of bytes, so they are copied as they stand.
 const MARK: &[u8; 4] = b"mark";
 
 const CUT: &[u8; 3] = b"cut";

@@ -38,6 +38,7 @@ impl Line {
         requires { length self.old + length bytes.now ≤ 64 }
         ensures { self.new ≡ self.old ++ bytes.now }
     {
+        // It does, by what is required, so there is nothing to hand on.
         let _fits = self.bytes.try_extend_from_slice(bytes);
     }
 

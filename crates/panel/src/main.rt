@@ -3,12 +3,13 @@
 
 use heap_run::{carry_out, refusal_text};
 use run::bodies::Stop;
+use run::listing::LONGEST;
 use std::io;
 use std::io::{Read, Write};
 use std::process::ExitCode;
 
 // How many bytes of a file are read: one more than the longest file has, so that a longer one is told from it.
-const READ: u64 = 65537;
+const READ: u64 = LONGEST as u64 + 1;
 
 fn main(rt: HostRuntime) -> io::Result<ExitCode> {
     let heap = rt.alloc();
