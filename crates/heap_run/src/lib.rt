@@ -1,8 +1,10 @@
 // A grammar file carried out on the heap, for programs: the library takes its tables and its buffers from the caller.
 #![tactic(auto)]
 
-ghost use Rattle.std.specs.Prelude.{◌≡◌, ◌≤◌, length, MatchResult, IfOk, vec_len};
+ghost use Rattle.std.specs.Prelude.{◌≡◌, ◌≤◌, length, Err, MatchResult, IfOk, vec_len};
 ghost use Rattle.output.specs.Lines.{refusal_line as RefusalLine};
+ghost use Rattle.run.specs.Openings.{OpensGrammar, not_a_grammar as NotAGrammar};
+ghost use Rattle.run.specs.declared.bodies.Stop.TheVariants.{Refused as Refuses};
 
 use commands::{Cut, Mark};
 use elements::ink::Ink;
@@ -40,7 +42,8 @@ fn buffer(heap: Global, len: usize) -> Result<Vec<u8>, AllocError>
 
 // Carries out the file in new tables, and writes the drawing that it leaves into the front of the buffer.
 fn carry_into(heap: Global, file: &[u8], out: &mut [u8]) -> Result<Result<usize, Stop>, AllocError>
-    ensures { IfOk result (λ answer. MatchResult answer (λ n. n ≤ length out.old) (λ _. out.new ≡ out.old)) }
+    ensures not_a_grammar { IfOk result (λ answer. (OpensGrammar file.now → ⊥) → answer ≡ Err (Refuses NotAGrammar)) }
+    ensures written { IfOk result (λ answer. MatchResult answer (λ n. n ≤ length out.old) (λ _. out.new ≡ out.old)) }
 {
     let (mark, cut) = (any_mark(), any_cut());
     let mut left_marks = vec![in heap; mark; SLOTS]?;
@@ -62,7 +65,8 @@ fn carry_into(heap: Global, file: &[u8], out: &mut [u8]) -> Result<Result<usize,
 
 // Carries out the file, and answers the text of the drawing that it leaves.
 pub fn carry_out(heap: Global, file: &[u8]) -> Result<Result<Vec<u8>, Stop>, AllocError>
-    ensures { IfOk result (λ answer. IfOk answer (λ text. vec_len text ≤ LONGEST_TEXT)) }
+    ensures not_a_grammar { IfOk result (λ answer. (OpensGrammar file.now → ⊥) → answer ≡ Err (Refuses NotAGrammar)) }
+    ensures text { IfOk result (λ answer. IfOk answer (λ text. vec_len text ≤ LONGEST_TEXT)) }
 {
     let mut text = buffer(heap, LONGEST_TEXT)?;
     match carry_into(heap, file, text.as_mut_slice())? {

@@ -1,5 +1,6 @@
 // A file's first line, its contents, and whether the lengths in them are those of the bytes behind.
-ghost use Rattle.std.specs.Prelude.{◌≡◌, ◌≤◌};
+ghost use Rattle.std.specs.Prelude.{◌≡◌, ◌≤◌, Err};
+ghost use Rattle.run.specs.Openings.{OpensGrammar, not_a_grammar as NotAGrammar};
 
 use crate::heading::opens;
 use lattice::refusal::Refusal;
@@ -45,7 +46,9 @@ fn total(contents: &Contents) -> u64 {
 }
 
 // The file's listing, or the refusal of a file that has none.
-pub fn read_listing(file: &[u8]) -> Result<Listing<'_>, Refused> {
+pub fn read_listing(file: &[u8]) -> Result<Listing<'_>, Refused>
+    ensures { (OpensGrammar file.now → ⊥) → result ≡ Err NotAGrammar }
+{
     if file.len() > LONGEST || !opens(file) {
         return Err(Refused {
             refusal: Refusal::NotAGrammar,

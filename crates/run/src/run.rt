@@ -1,5 +1,7 @@
 // A whole file.
-ghost use Rattle.std.specs.Prelude.{◌≡◌, ◌≤◌, length, MatchResult};
+ghost use Rattle.std.specs.Prelude.{◌≡◌, ◌≤◌, length, Err, MatchResult};
+ghost use Rattle.run.specs.Openings.{OpensGrammar, not_a_grammar as NotAGrammar};
+ghost use Rattle.run.specs.declared.bodies.Stop.TheVariants.{Refused as Refuses};
 
 use crate::bodies::{Stop, carry_rules, carry_start, carry_steps, refused_at};
 use crate::listing::read_listing;
@@ -8,7 +10,8 @@ use output::show::show;
 
 // Carries out the file in the tables, and writes the drawing that it leaves into the front of the buffer.
 pub fn run(file: &[u8], tables: Tables, out: &mut [u8]) -> Result<usize, Stop>
-    ensures { MatchResult result (λ n. n ≤ length out.old) (λ _. out.new ≡ out.old) }
+    ensures not_a_grammar { (OpensGrammar file.now → ⊥) → result ≡ Err (Refuses NotAGrammar) }
+    ensures written { MatchResult result (λ n. n ≤ length out.old) (λ _. out.new ≡ out.old) }
 {
     let outside = |refusal| refused_at(refusal, 0);
     let listing = read_listing(file)?;
