@@ -23,14 +23,14 @@ pub enum SideLine {
 }
 
 // A line of the steps.
-#[derive(Clone, Copy)]
+#[derive(Clone, Copy, PartialEq, Eq, Debug)]
 pub enum StepLine {
     Pick(Pick),
     Undo,
 }
 
 // A rule and one of its places, by their numbers.
-#[derive(Clone, Copy)]
+#[derive(Clone, Copy, PartialEq, Eq, Debug)]
 pub struct Pick {
     pub rule: i32,
     pub place: i32,

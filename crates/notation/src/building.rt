@@ -1,6 +1,6 @@
 // Contents put together entry by entry.
-ghost use Rattle.std.specs.Prelude.{◌≡◌, [], Decides};
-ghost use Rattle.notation.specs.Contents.{entries, Proper, Admits};
+ghost use Rattle.std.specs.Prelude.{◌≡◌, [], length, Decides};
+ghost use Rattle.notation.specs.Contents.{entries, rule_lengths, Proper, Admits};
 
 use crate::contents::{Contents, Entry, Stage};
 
@@ -23,77 +23,43 @@ impl Contents {
     pub fn is_whole(&self) -> bool
         ensures { Decides result (self.now.stage ≡ Stage.Whole) }
     {
-        match self.stage {
-            Stage::Whole => true,
-            _ => false,
-        }
+        self.stage == Stage::Whole
     }
 
-    // At the start of the contents only the length of the start may come.
-    fn admit_start(&mut self, entry: Entry) -> bool
-        requires { self.old.stage ≡ Stage.Start }
+    // The lengths of the rules that were taken, in order.
+    pub fn rules(&self) -> &[u32]
+        ensures value { result.now ≡ rule_lengths self.now }
+        ensures len { length result.now ≡ self.now.count }
+    {
+        &self.rules[..self.count]
+    }
+
+    // Takes the entry, if it may come next: the start, then one to 32 rules, then the steps, then the line that ends the
+    // contents.
+    pub fn admit(&mut self, entry: Entry) -> bool
         ensures { Admits self.old self.new entry result }
     {
-        match entry {
-            Entry::Start(n) => {
-                self.start = n;
+        match (self.stage, entry) {
+            (Stage::Start, Entry::Start(length)) => {
+                self.start = length;
                 self.stage = Stage::Rules;
                 true
             }
-            _ => false,
-        }
-    }
-
-    // Then a rule, up to 32 of them, or the steps, if there is a rule.
-    fn admit_rule(&mut self, entry: Entry) -> bool
-        requires { self.old.stage ≡ Stage.Rules }
-        ensures { Admits self.old self.new entry result }
-    {
-        let n = self.count;
-        match entry {
-            Entry::Rule(length) => {
-                if n >= 32 {
-                    return false;
-                }
-                self.rules[n] = length;
-                self.count = n + 1;
+            (Stage::Rules, Entry::Rule(length)) if self.count < 32 => {
+                self.rules[self.count] = length;
+                self.count += 1;
                 true
             }
-            Entry::Steps(length) => {
-                if n == 0 {
-                    return false;
-                }
+            (Stage::Rules, Entry::Steps(length)) if self.count > 0 => {
                 self.steps = length;
                 self.stage = Stage::Body;
                 true
             }
-            _ => false,
-        }
-    }
-
-    // Behind the steps only the line that ends the contents.
-    fn admit_body(&mut self, entry: Entry) -> bool
-        requires { self.old.stage ≡ Stage.Body }
-        ensures { Admits self.old self.new entry result }
-    {
-        match entry {
-            Entry::Body => {
+            (Stage::Body, Entry::Body) => {
                 self.stage = Stage::Whole;
                 true
             }
             _ => false,
-        }
-    }
-
-    // Takes the entry, if it may come next.
-    pub fn admit(&mut self, entry: Entry) -> bool
-        ensures { Admits self.old self.new entry result }
-    {
-        match self.stage {
-            Stage::Start => self.admit_start(entry),
-            Stage::Rules => self.admit_rule(entry),
-            Stage::Body => self.admit_body(entry),
-            Stage::Whole => false,
         }
     }
 }

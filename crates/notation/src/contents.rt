@@ -2,7 +2,7 @@
 ghost use Rattle.std.specs.Prelude.{◌≤◌};
 
 // One line of the contents.
-#[derive(Clone, Copy)]
+#[derive(Clone, Copy, PartialEq, Eq, Debug)]
 pub enum Entry {
     Start(u32),
     Rule(u32),
@@ -11,7 +11,7 @@ pub enum Entry {
 }
 
 // What comes next, after the lines that were read.
-#[derive(Clone, Copy)]
+#[derive(Clone, Copy, PartialEq, Eq, Debug)]
 pub enum Stage {
     Start,
     Rules,
@@ -19,8 +19,9 @@ pub enum Stage {
     Whole,
 }
 
-// The lengths that were read: of the start, of the first `count` rules, and of the steps.
-#[derive(Clone, Copy)]
+// The lengths that were read: of the start, of the first `count` rules, and of the steps. The rules lie in an array of the
+// greatest number of them, with a count: contents are copied as a value, and no memory is allocated for them.
+#[derive(Clone, Copy, PartialEq, Eq, Debug)]
 pub struct Contents {
     pub stage: Stage,
     pub start: u32,

@@ -2,8 +2,10 @@
 use Rattle.std.proofs.Common.{◌≡◌, ℕ, ◌<◌, Bool, true, false, ◌&&◌, List, [], ◌∷◌, length, get_or, ℤ, pos, Ok, Err, MatchBool, Result, sym, refl, ap, ◌∙◌, subst, inl, inr, arith}
 use Rattle.std.specs.Fmt.{signed_decimal}
 use Rattle.lattice.specs.Field.{ranged}
+use Rattle.lattice.specs.Refusals.{number}
 use Rattle.lattice.specs.declared.refusal.Refusal.{Refusal}
 use Rattle.elements.specs.Inks.{inks, InkMade}
+use Rattle.elements.specs.Points.{PointMade}
 use Rattle.elements.specs.declared.ink.Ink.{Ink}
 use Rattle.elements.specs.declared.point.Point.{Point}
 use Rattle.segments.specs.Segments.{all_ranged, upper_x, upper_y, Spans, SegmentMade}
@@ -11,7 +13,7 @@ use Rattle.segments.specs.declared.segment.Segment.{Segment}
 use Rattle.notation.specs.Numbers.{Short}
 use Rattle.notation.specs.Words.{spaced, Splits}
 use Rattle.commands.specs.Meanings.{in_range}
-use Rattle.parsing.specs.Strokes.{NotNumbers, NumbersAre, MarkMade, CutMade, MarkFields, CutFields, cut_numbers, cut_numbers_back}
+use Rattle.parsing.specs.Strokes.{FieldIs, FieldFault, NumbersAre, MarkMade, CutMade, MarkFields, CutFields, cut_numbers, cut_numbers_back}
 use Rattle.parsing.proofs.Numbering.{no_numbers}
 
 -- a field and the number that it is
@@ -19,8 +21,9 @@ pub record Is (f : List ℕ) (z : ℤ) : Type 0 where
   pub short : Short z
   pub text : f ≡ signed_decimal z
 
-pub not_numbers : (bs : List ℕ) (n : ℕ) (fs : List (List ℕ)) (k : ℕ) → length fs ≡ n → Splits bs fs → k < length fs → ((z : ℤ) → Short z → get_or fs k [] ≡ signed_decimal z → ⊥) → NotNumbers bs n
-not_numbers bs n fs k m s l none = (fs, m, s, no_numbers fs k l none)
+-- where one field is no number, the fields are not all of them numbers
+pub no_number : (bs : List ℕ) (n : ℕ) (fs : List (List ℕ)) (k : ℕ) (e : Refusal) → Splits bs fs → length fs ≡ n → k < length fs → FieldIs (get_or fs k []) (Err e) → FieldFault n bs (number e)
+no_number bs n fs k e s m l h = inr (h.0, (fs, m, s, no_numbers fs k l h.1))
 
 three_numbers : (bs a b c : List ℕ) (i x y : ℤ) → Splits bs (a ∷ b ∷ c ∷ []) → Is a i → Is b x → Is c y → NumbersAre bs (i ∷ x ∷ y ∷ [])
 three_numbers bs a b c i x y s p q r =
@@ -51,6 +54,14 @@ cut_fields bs a b c d e i x y v w (Err f) s p q t u o (inr h) =
     let xs = h.2 in
     let ys = h.3 in
     inr (inr (h.0, i, x, y, subst (NumbersAre bs) (λ j. i ∷ x ∷ y ∷ sym xs j ∷ sym ys j ∷ []) n, ap (λ (zs : List ℤ). in_range zs) (λ j. i ∷ x ∷ y ∷ xs j ∷ ys j ∷ []) ∙ h.1))
+
+pub mark_made : (i x y : ℤ) (p : Point) (r : Result (Ink Point) Refusal) → PointMade x y (Ok p) → InkMade i p r → MarkMade i x y r
+mark_made i x y p (Ok m) s k =
+    let n = sym k.1 in
+    let l = sym s.1 ∙ ap (λ (q : Point). q.x) (sym k.2) in
+    let o = sym s.2 ∙ ap (λ (q : Point). q.y) (sym k.2) in
+    λ j. n j ∷ l j ∷ o j ∷ []
+mark_made i x y p (Err f) s k = (k.1, ap (λ (b : Bool). b && (ranged x && (ranged y && true))) k.0)
 
 -- the numbers of a cut are in range if the ink and the four coordinates are
 and_five : (a b c d e v : Bool) → a ≡ true → ((b && c) && (d && e)) ≡ v → (a && (b && (c && (d && (e && true))))) ≡ v

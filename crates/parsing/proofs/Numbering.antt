@@ -4,9 +4,10 @@ use Rattle.std.specs.Str.Parse.{AllDigits}
 use Rattle.std.specs.Fmt.{signed_decimal}
 use Rattle.std.specs.List.{AllByRecursion}
 use Rattle.std.proofs.lemmas.Bool.Decides.{nat_tests}
+use Rattle.std.proofs.lemmas.Str.Parse.{digit_at}
 use Rattle.notation.specs.Numbers.{Short}
 use Rattle.notation.specs.Words.{spaced, Field, Splits}
-use Rattle.reading.proofs.Digits.{natural_length, natural_digits, digit_at}
+use Rattle.reading.proofs.Digits.{natural_length, natural_digits}
 use Rattle.reading.proofs.Splitting.{one_split}
 
 -- there is one way to cut bytes into so many fields

@@ -7,7 +7,7 @@ use Rattle.notation.specs.declared.contents.Contents.{Contents}
 use Rattle.notation.specs.declared.contents.Entry.{Entry}
 use Rattle.notation.specs.declared.contents.Stage.TheVariants as stage
 use Rattle.notation.specs.declared.refused.Refused.{Refused}
-use Rattle.reading.specs.Readers.{rest, Takes}
+use Rattle.reading.specs.Readers.{rest}
 use Rattle.reading.specs.declared.line.Line.{Line}
 use Rattle.reading.specs.declared.reader.Reader.{Reader}
 
@@ -15,18 +15,11 @@ use Rattle.reading.specs.declared.reader.Reader.{Reader}
 abbrev pub Breaks : Contents → List ℕ → Type 0
 Breaks c text = (e : Entry) → ShortEntry e → text ≡ entry_text e → may_follow c.stage c.count e ≡ false
 
--- a line of the contents was taken, or there is none with a byte 10 at its end
-abbrev pub LineTaken : Reader → Reader → Result Line Refused → Type 0
-LineTaken r t (Ok l) = Takes r t l × (l.ended ≡ true)
-LineTaken r t (Err e) =
-    (number e.refusal ≡ 2)
-    × (((length (rest r) ≡ 0) × (e.line ≡ r.line - 1)) ⊎ ((0 < length (rest r)) × (is_ended (rest r) ≡ false) × (e.line ≡ r.line)))
-
--- a line went on the contents, or breaks their form
+-- a line that a byte 10 ends went on the contents, or one with that byte breaks their form
 abbrev pub EntryTaken : Contents → Contents → Line → Result (Unit {0}) Refused → Type 0
 EntryTaken c d l (Ok _) =
-    (e : Entry) × ShortEntry e × (l.text.now ≡ entry_text e) × (Proper c → (entries d ≡ entries c ++ (e ∷ [])) × Proper d)
-EntryTaken c d l (Err e) = (number e.refusal ≡ 2) × (e.line ≡ l.number) × Breaks c l.text.now
+    (l.ended ≡ true) × (e : Entry) × ShortEntry e × (l.text.now ≡ entry_text e) × (Proper c → (entries d ≡ entries c ++ (e ∷ [])) × Proper d)
+EntryTaken c d l (Err e) = (number e.refusal ≡ 2) × (e.line ≡ l.number) × (l.ended ≡ true → Breaks c l.text.now)
 
 -- the bytes are the lines of whole contents, and then the rest
 pub record Whole (bytes : List ℕ) (c : Contents) (rest : List ℕ) : Type 0 where

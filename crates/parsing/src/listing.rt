@@ -1,7 +1,7 @@
 // The contents of a file, read line by line.
 ghost use Rattle.std.specs.Prelude.{◌≡◌};
 ghost use Rattle.lattice.specs.Refusals.{number as Number};
-ghost use Rattle.parsing.specs.Listing.{LineTaken, EntryTaken, ContentsRead};
+ghost use Rattle.parsing.specs.Listing.{EntryTaken, ContentsRead};
 
 use crate::entries::read_entry;
 use lattice::refusal::Refusal;
@@ -21,45 +21,29 @@ fn broken(line: u32) -> Refused
     }
 }
 
-// The next line, which a byte 10 has to end. Where no line is left, the last one that was begun is at fault.
-fn take_line<'a>(reader: &mut Reader<'a>) -> Result<Line<'a>, Refused>
-    ensures { LineTaken reader.old reader.new result }
-{
-    match reader.next_line() {
-        Some(line) => {
-            if line.ended {
-                Ok(line)
-            } else {
-                Err(broken(line.number))
-            }
-        }
-        None => Err(broken(reader.line().saturating_sub(1))),
-    }
-}
-
-// Puts what a line says on the contents, if it may come next.
+// Puts what a line says on the contents, if a byte 10 ends it and it may come next.
 fn take_entry(contents: &mut Contents, line: Line) -> Result<(), Refused>
     ensures { EntryTaken contents.old contents.new line.entry result }
 {
-    match read_entry(line.text) {
-        Some(entry) => {
-            if contents.admit(entry) {
-                Ok(())
-            } else {
-                Err(broken(line.number))
-            }
-        }
-        None => Err(broken(line.number)),
+    let entry = line
+        .whole()
+        .and_then(read_entry)
+        .ok_or(broken(line.number))?;
+    if contents.admit(entry) {
+        Ok(())
+    } else {
+        Err(broken(line.number))
     }
 }
 
-// The contents, up to and with their line `body`.
+// The contents, up to and with their line `body`. Where no line is left, the last one that was begun is at fault.
 pub fn read_contents(reader: &mut Reader) -> Result<Contents, Refused>
     ensures { ContentsRead reader.old reader.new result }
 {
     let mut contents = Contents::new();
     while !contents.is_whole() {
-        let line = take_line(reader)?;
+        let last = reader.line().saturating_sub(1);
+        let line = reader.next_line().ok_or(broken(last))?;
         take_entry(&mut contents, line)?;
     }
     Ok(contents)

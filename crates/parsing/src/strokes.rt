@@ -21,64 +21,45 @@ use segments::segment::Segment;
 fn number(field: &[u8]) -> Result<i32, Refusal>
     ensures { FieldIs field.now result }
 {
-    match read_number(field) {
-        Some(z) => Ok(z),
-        None => Err(Refusal::BadNumber),
-    }
+    read_number(field).ok_or(Refusal::BadNumber)
 }
 
 // The mark of three numbers.
 fn mark(ink: i32, x: i32, y: i32) -> Result<Mark, Refusal>
     ensures { MarkMade ink x y result }
 {
-    let point = Point::new(x, y)?;
-    Ink::new(ink, point)
+    Ink::new(ink, Point::new(x, y)?)
 }
 
-// Whether a number is one of an ink.
-fn is_ink(n: i32) -> bool
-    ensures { result ≡ inks n }
-{
-    0 <= n && n <= 255
-}
-
-// The cut of five numbers.
+// The cut of five numbers. The ink is tried on nothing first: that it is out of range comes before that the ends are
+// equal.
 fn cut(ink: i32, x1: i32, y1: i32, x2: i32, y2: i32) -> Result<Cut, Refusal>
     ensures { CutMade ink x1 y1 x2 y2 result }
 {
-    if !is_ink(ink) {
-        return Err(Refusal::OutOfRange);
-    }
-    let segment = Segment::new(x1, y1, x2, y2)?;
-    Ink::new(ink, segment)
+    Ink::new(ink, ())?;
+    Ink::new(ink, Segment::new(x1, y1, x2, y2)?)
 }
 
 // What follows `mark `.
 fn read_mark(rest: &[u8]) -> Result<Mark, Refusal>
     ensures { MarkFields rest.now result }
 {
-    let Some((i, x, y)) = three_fields(rest) else {
-        return Err(Refusal::BadLine);
-    };
-    let ink = number(i)?;
-    let x = number(x)?;
-    let y = number(y)?;
-    mark(ink, x, y)
+    let (ink, x, y) = three_fields(rest).ok_or(Refusal::BadLine)?;
+    mark(number(ink)?, number(x)?, number(y)?)
 }
 
 // What follows `cut `.
 fn read_cut(rest: &[u8]) -> Result<Cut, Refusal>
     ensures { CutFields rest.now result }
 {
-    let Some((i, x1, y1, x2, y2)) = five_fields(rest) else {
-        return Err(Refusal::BadLine);
-    };
-    let ink = number(i)?;
-    let x1 = number(x1)?;
-    let y1 = number(y1)?;
-    let x2 = number(x2)?;
-    let y2 = number(y2)?;
-    cut(ink, x1, y1, x2, y2)
+    let (ink, x1, y1, x2, y2) = five_fields(rest).ok_or(Refusal::BadLine)?;
+    cut(
+        number(ink)?,
+        number(x1)?,
+        number(y1)?,
+        number(x2)?,
+        number(y2)?,
+    )
 }
 
 // A line of the start.
@@ -86,12 +67,12 @@ pub fn read_stroke(line: &[u8]) -> Result<Stroke<Mark, Cut>, Refusal>
     ensures { StrokeIs line.now result }
 {
     if let Some(rest) = after_mark(line) {
-        return Ok(Stroke::Mark(read_mark(rest)?));
+        read_mark(rest).map(Stroke::Mark)
+    } else if let Some(rest) = after_cut(line) {
+        read_cut(rest).map(Stroke::Cut)
+    } else {
+        Err(Refusal::BadLine)
     }
-    if let Some(rest) = after_cut(line) {
-        return Ok(Stroke::Cut(read_cut(rest)?));
-    }
-    Err(Refusal::BadLine)
 }
 
 // A line of a rule.
@@ -99,24 +80,23 @@ pub fn read_side(line: &[u8]) -> Result<SideLine, Refusal>
     ensures { SideIs line.now result }
 {
     if let Some(rest) = after_left(line) {
-        return Ok(SideLine::Left(read_stroke(rest)?));
+        read_stroke(rest).map(SideLine::Left)
+    } else if let Some(rest) = after_right(line) {
+        read_stroke(rest).map(SideLine::Right)
+    } else {
+        Err(Refusal::BadLine)
     }
-    if let Some(rest) = after_right(line) {
-        return Ok(SideLine::Right(read_stroke(rest)?));
-    }
-    Err(Refusal::BadLine)
 }
 
 // What follows `pick `.
 fn read_pick(rest: &[u8]) -> Result<Pick, Refusal>
     ensures { PickFields rest.now result }
 {
-    let Some((r, k)) = two_fields(rest) else {
-        return Err(Refusal::BadLine);
-    };
-    let rule = number(r)?;
-    let place = number(k)?;
-    Ok(Pick { rule, place })
+    let (rule, place) = two_fields(rest).ok_or(Refusal::BadLine)?;
+    Ok(Pick {
+        rule: number(rule)?,
+        place: number(place)?,
+    })
 }
 
 // A line of the steps.
@@ -126,8 +106,6 @@ pub fn read_step(line: &[u8]) -> Result<StepLine, Refusal>
     if is_undo(line) {
         return Ok(StepLine::Undo);
     }
-    match after_pick(line) {
-        Some(rest) => Ok(StepLine::Pick(read_pick(rest)?)),
-        None => Err(Refusal::BadLine),
-    }
+    let rest = after_pick(line).ok_or(Refusal::BadLine)?;
+    read_pick(rest).map(StepLine::Pick)
 }

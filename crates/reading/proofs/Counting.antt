@@ -1,8 +1,7 @@
 -- How many lines end before a place of a text.
-use Rattle.std.proofs.Common.{◌≡◌, ℕ, suc, ◌+◌, ◌<◌, ◌≤◌, Bool, true, false, cond, List, [], ◌∷◌, ◌++◌, length, take, drop, sym, refl, ap, ◌∙◌, one-add, arith, take-add, ltb-true}
-use Rattle.std.proofs.lemmas.List.{drop-drop, drop_all}
+use Rattle.std.proofs.Common.{◌≡◌, ℕ, suc, ◌+◌, ◌<◌, ◌≤◌, Bool, true, false, cond, List, [], ◌∷◌, ◌++◌, length, take, drop, refl, ap, ◌∙◌, one-add, arith, take-add, ltb, ltb-true}
+use mir.Val.{bool_byte}
 use Rattle.std.proofs.lemmas.List.Sums.{sum_by-append, sum_by-cons, sum_by-take-le, count_by-le-length}
-use Rattle.std.proofs.lemmas.Bool.{lt-ltb, le-ltb}
 use Rattle.std.proofs.lemmas.Bool.Decides.{nat_tests}
 use Rattle.notation.specs.Lines.{ends_line, newlines, in_line, line_length, is_ended, first_line, after_line}
 use Rattle.reading.proofs.Cutting.{cut_at}
@@ -44,37 +43,29 @@ count_add : (xs : List ℕ) (i n : ℕ) → newlines (take (i + n) xs) ≡ newli
 count_add xs i n = rw take-add (sum_by-append (λ y. cond (ends_line y) 1 0) (take i xs) (take n (drop i xs)))
 
 -- the count goes on by one over a line with its end, and by none over the last line without it
-pub count_line : (xs : List ℕ) (i n : ℕ) → n ≡ line_length (drop i xs) → newlines (take (i + n) xs) ≡ newlines (take i xs)
+count_line : (xs : List ℕ) (i n : ℕ) → n ≡ line_length (drop i xs) → newlines (take (i + n) xs) ≡ newlines (take i xs)
 count_line xs i n e = rw e (count_add xs i (line_length (drop i xs)) ∙ omega (arith, front_none (drop i xs)))
 
-pub count_ended : (xs : List ℕ) (i n : ℕ) → n ≡ line_length (drop i xs) → n < length (drop i xs) → newlines (take (i + (n + 1)) xs) ≡ newlines (take i xs) + 1
+count_ended : (xs : List ℕ) (i n : ℕ) → n ≡ line_length (drop i xs) → n < length (drop i xs) → newlines (take (i + (n + 1)) xs) ≡ newlines (take i xs) + 1
 count_ended xs i n e h =
     rw e (count_add xs i (line_length (drop i xs) + 1) ∙ omega (arith, front_one (drop i xs) (omega (arith, e, h))))
+
+-- by one or by none, as the line has its end
+pub count_next : (xs : List ℕ) (i n b : ℕ) (t : Bool) → n ≡ line_length (drop i xs) → ltb n (length (drop i xs)) ≡ t → b ≡ bool_byte t → newlines (take (i + (n + b)) xs) ≡ newlines (take i xs) + b
+count_next xs i n b true e h k =
+    ap (λ (m : ℕ). newlines (take (i + (n + m)) xs)) k ∙ count_ended xs i n e (ltb-true n (length (drop i xs)) h) ∙ omega (arith, k)
+count_next xs i n b false e h k =
+    let z : i + (n + b) ≡ i + n = omega (arith, k) in
+    ap (λ (m : ℕ). newlines (take m xs)) z ∙ count_line xs i n e ∙ omega (arith, k)
+
+-- with its end, if it has one, a line lies within the text
+pub end_within : (n l b : ℕ) (t : Bool) → n ≤ l → ltb n l ≡ t → b ≡ bool_byte t → n + b ≤ l
+end_within n l b true w h k = let s = ltb-true n l h in omega (arith, k)
+end_within n l b false w h k = omega (arith, k)
 
 pub newlines_le : (xs : List ℕ) (i : ℕ) → newlines (take i xs) ≤ length xs
 newlines_le xs i = omega (arith, sum_by-take-le (λ y. cond (ends_line y) 1 0) xs i, count_by-le-length ends_line xs)
 
--- where the line ends, and where the text does
-pub is_ended_yes : (xs : List ℕ) (n : ℕ) → n ≡ line_length xs → n < length xs → true ≡ is_ended xs
-is_ended_yes xs n e h = sym (lt-ltb (line_length xs) (length xs) (omega (arith, e, h)))
-
-pub is_ended_no : (xs : List ℕ) (n : ℕ) → n ≡ line_length xs → n ≡ length xs → false ≡ is_ended xs
-is_ended_no xs n e h = sym (le-ltb (line_length xs) (length xs) (omega (arith, e, h)))
-
--- what a line leaves
-pub after_ended : (xs : List ℕ) (i n : ℕ) → n ≡ line_length (drop i xs) → drop (i + (n + 1)) xs ≡ after_line (drop i xs)
-after_ended xs i n e = sym (drop-drop (n + 1) i xs) ∙ ap (λ (k : ℕ). drop (k + 1) (drop i xs)) e
-
-pub after_last : (xs : List ℕ) (i n : ℕ) → n ≡ line_length (drop i xs) → n ≡ length (drop i xs) → drop (i + n) xs ≡ after_line (drop i xs)
-after_last xs i n e l =
-    sym (drop-drop n i xs) ∙ drop_all n (drop i xs) (omega (arith, l)) ∙ sym (drop_all (line_length (drop i xs) + 1) (drop i xs) (omega (arith, e, l)))
-
 -- a line with its end, and the bytes after it
 pub cut_line : (xs : List ℕ) → is_ended xs ≡ true → xs ≡ first_line xs ++ (10 ∷ after_line xs)
 cut_line xs h = cut_at 10 xs (ltb-true (line_length xs) (length xs) h)
-
-pub next_number : (n : ℕ) (b : Bool) → true ≡ b → n + 1 ≡ n + cond b 1 0
-next_number n b e = ap (λ (x : Bool). n + cond x 1 0) e
-
-pub same_number : (n : ℕ) (b : Bool) → false ≡ b → n ≡ n + cond b 1 0
-same_number n b e = omega arith ∙ ap (λ (x : Bool). n + cond x 1 0) e

@@ -1,12 +1,12 @@
 -- Bytes up to the first one of a value, and the cut that it makes.
 use Rattle.std.proofs.Common.{◌≡◌, ℕ, suc, ◌+◌, ◌<◌, Bool, true, false, cond, eqb, List, [], ◌∷◌, ◌++◌, length, take, drop, refl, ap, ◌∙◌, one-add, arith}
-use Rattle.std.specs.List.{prefix_len, AllByRecursion}
+use Rattle.std.specs.List.{AllByRecursion}
 use Rattle.std.proofs.lemmas.Bool.Decides.{nat_tests}
+use Rattle.reading.specs.Parts.{length_before}
 
 module _ (k : ℕ) where
-  -- how many bytes stand before the first k
-  abbrev pub free_length : List ℕ → ℕ
-  free_length bs = prefix_len (λ b. cond (eqb b k) false true) bs
+  abbrev free_length : List ℕ → ℕ
+  free_length bs = length_before k bs
 
   abbrev pub Free : List ℕ → Type 0
   Free bs = AllByRecursion (λ b. eqb b k ≡ false) bs

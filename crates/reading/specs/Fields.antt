@@ -1,12 +1,7 @@
 -- What the functions that tell a word or take a field apart answer.
-use Rattle.std.specs.Prelude.{◌≡◌, ℕ, true, false, cond, List, [], ◌∷◌, ◌++◌, length, Some, None, Option, ◌==◌, ◌≢◌}
+use Rattle.std.specs.Prelude.{◌≡◌, ℕ, List, [], ◌∷◌, ◌++◌, length, Some, None, Option, ◌≢◌}
 use Rattle.std.specs.Borrow.{Bor}
-use Rattle.std.specs.List.{prefix_len}
 use Rattle.notation.specs.Words.{Field, Splits}
-
--- how many bytes stand before the first space
-abbrev pub solid_length : List ℕ → ℕ
-solid_length bs = prefix_len (λ b. cond (b == 32) false true) bs
 
 -- what follows the word, or the line does not open with it
 abbrev pub After : List ℕ → List ℕ → Option (Bor (List ℕ)) → Type 0

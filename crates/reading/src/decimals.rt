@@ -1,9 +1,9 @@
 // Numbers read from a field.
-ghost use Rattle.std.specs.Prelude.{◌≡◌, ◌<◌, ◌≤◌, length, ◌≢◌, slice_index};
+ghost use Rattle.std.specs.Prelude.{◌≡◌, ◌≤◌, ◌≢◌};
 ghost use Rattle.notation.specs.Numbers.{LengthIs, NumberIs};
 
 // What the first character of a field says.
-#[derive(Clone, Copy)]
+#[derive(Clone, Copy, PartialEq, Eq, Debug)]
 enum First {
     Minus,
     Digit,
@@ -25,48 +25,27 @@ fn first_of(b: u8) -> First
 pub fn read_length(field: &[u8]) -> Option<u32>
     ensures { LengthIs field.now result }
 {
-    if field.len() == 0 || field.len() > 9 {
+    let first = *field.first()?;
+    if !first.is_ascii_digit() || field.len() > 9 {
         return None;
     }
-    if field[0] == b'0' && field.len() > 1 {
+    if first == b'0' && field.len() > 1 {
         return None;
     }
-    let mut value = 0u32;
-    for b in field {
-        if *b < b'0' || *b > b'9' {
-            return None;
-        }
-        value = value * 10 + (*b - b'0') as u32;
-    }
-    Some(value)
+    str::from_utf8(field).ok()?.parse().ok()
 }
 
-// The same with a minus sign before it, which 0 does not take.
-fn read_negative(field: &[u8]) -> Option<i32>
-    requires some { 0 < length field.now }
-    requires minus { slice_index field.now 0 ≡ 45 }
-    ensures { NumberIs field.now result }
-{
-    match read_length(&field[1..]) {
-        Some(0) => None,
-        Some(n) => Some(-(n as i32)),
-        None => None,
-    }
-}
-
-// A number: told by its first character, a minus sign or a digit.
+// A number: told by its first character, a minus sign, which 0 does not take, or a digit.
 pub fn read_number(field: &[u8]) -> Option<i32>
     ensures { NumberIs field.now result }
 {
-    if field.len() == 0 {
-        return None;
-    }
-    match first_of(field[0]) {
-        First::Minus => read_negative(field),
-        First::Digit => match read_length(field) {
-            Some(n) => Some(n as i32),
-            None => None,
+    let (first, rest) = field.split_first()?;
+    match first_of(*first) {
+        First::Minus => match read_length(rest)? {
+            0 => None,
+            n => Some(-(n as i32)),
         },
+        First::Digit => read_length(field).map(|n| n as i32),
         First::Other => None,
     }
 }

@@ -5,5 +5,6 @@ pub mod decimals;
 pub mod fields;
 pub mod line;
 pub mod lines;
+mod parts;
 pub mod reader;
 pub mod words;

@@ -1,9 +1,10 @@
 // Opening a reader, and taking a file apart into lines.
-ghost use Rattle.std.specs.Prelude.{◌≡◌, ◌+◌, ◌<◌, ◌≤◌, length, take};
-ghost use Rattle.notation.specs.Lines.{newlines, line_length};
+ghost use Rattle.std.specs.Prelude.{◌≡◌, ◌+◌, ◌≤◌, length, take};
+ghost use Rattle.notation.specs.Lines.{newlines};
 ghost use Rattle.reading.specs.Readers.{rest as Rest, Opens, NextLine};
 
 use crate::line::Line;
+use crate::parts::up_to;
 use crate::reader::Reader;
 
 // The greatest number of bytes that a file may have.
@@ -14,10 +15,7 @@ fn at_most(bytes: &[u8], most: usize) -> &[u8]
     ensures value { result.now ≡ take most bytes.now }
     ensures few { length result.now ≤ most }
 {
-    if bytes.len() <= most {
-        return bytes;
-    }
-    &bytes[0..most]
+    &bytes[..bytes.len().min(most)]
 }
 
 // How many lines end in the bytes.
@@ -26,26 +24,7 @@ fn ends(bytes: &[u8]) -> u32
     ensures value { result ≡ newlines bytes.now }
     ensures few { result ≤ 65536 }
 {
-    let mut n = 0;
-    for b in bytes {
-        if *b == b'\n' {
-            n += 1;
-        }
-    }
-    n
-}
-
-// How many bytes stand before the end of the first line.
-fn up_to_end(bytes: &[u8]) -> usize
-    ensures value { result ≡ line_length bytes.now }
-    ensures within { result ≤ length bytes.now }
-{
-    for (i, b) in bytes.iter().enumerate() {
-        if *b == b'\n' {
-            return i;
-        }
-    }
-    bytes.len()
+    bytes.iter().filter(|b| **b == b'\n').count() as u32
 }
 
 impl<'a> Reader<'a> {
@@ -62,8 +41,8 @@ impl<'a> Reader<'a> {
     {
         let file = at_most(file, LONGEST);
         let from = from.min(file.len());
-        let to = to.min(file.len()).max(from);
-        let first = 1 + ends(&file[0..from]);
+        let to = to.clamp(from, file.len());
+        let first = 1 + ends(&file[..from]);
         Reader {
             text: &file[from..to],
             at: 0,
@@ -92,25 +71,18 @@ impl<'a> Reader<'a> {
         ensures { NextLine self.old self.new result }
     {
         let rest = self.rest();
-        if rest.len() == 0 {
+        if rest.is_empty() {
             return None;
         }
-        let n = up_to_end(rest);
-        let number = self.line;
-        if n == rest.len() {
-            self.at += n;
-            return Some(Line {
-                text: rest,
-                number,
-                ended: false,
-            });
-        }
-        self.at += n + 1;
-        self.line += 1;
-        Some(Line {
-            text: &rest[0..n],
-            number,
-            ended: true,
-        })
+        let length = up_to(b'\n', rest);
+        let ended = length < rest.len();
+        let line = Line {
+            text: &rest[..length],
+            number: self.line,
+            ended,
+        };
+        self.at += length + usize::from(ended);
+        self.line += u32::from(ended);
+        Some(line)
     }
 }

@@ -1,4 +1,7 @@
-// The words that open a line, each told by a pattern over its bytes that names what follows.
+// The words that open a line, each told by a pattern over its bytes that names what follows. A word has a function of its
+// own: a pattern names its bytes one by one, and is the same for no two words.
+#![tactic(auto, using(crate::proofs::Opening::opens))]
+
 ghost use Rattle.std.specs.Prelude.{◌≡◌, codes, Decides};
 ghost use Rattle.reading.specs.Fields.{After};
 
@@ -86,18 +89,12 @@ pub fn after_steps<'a>(line: &'a [u8]) -> Option<&'a [u8]>
 pub fn is_undo(line: &[u8]) -> bool
     ensures { Decides result (line.now ≡ codes "undo") }
 {
-    match line {
-        b"undo" => true,
-        _ => false,
-    }
+    matches!(line, b"undo")
 }
 
 // Whether a line is `body` and nothing else.
 pub fn is_body(line: &[u8]) -> bool
     ensures { Decides result (line.now ≡ codes "body") }
 {
-    match line {
-        b"body" => true,
-        _ => false,
-    }
+    matches!(line, b"body")
 }

@@ -1,50 +1,52 @@
-use Rattle.std.proofs.Common.{[], ◌∷◌, refl, inl, inr, arith, w32, SFits, rules}
+use Rattle.std.proofs.Common.{refl, inl, subst, arith, w32, SFits, rules}
 use Rattle.std.proofs.lemmas.Result.{err_from_is_err_and}
 use Rattle.std.proofs.lemmas.Int.{to_z-of_z}
-use Rattle.parsing.proofs.Making.{not_numbers, cut_fields}
+use Rattle.reading.specs.Fields.{Five}
+use Rattle.parsing.proofs.Making.{no_number, cut_fields}
 use Rattle.parsing.proofs.strokes.read_cut.Goals as goal
 
-pub returns-in_err-ink : goal.returns-in_err-ink
-returns-in_err-ink c =
-    let p = err_from_is_err_and c.from_residual.result c.from_residual.ensures.1 in
-    let h = c.in_err-ink.ensures in
-    rw (p.1, p.2) (inl (inr (h.0, not_numbers _ 5 (c.in-Some.i.now ∷ c.in-Some.x1.now ∷ c.in-Some.y1.now ∷ c.in-Some.x2.now ∷ c.in-Some.y2.now ∷ []) 0 refl c.in-Some.ensures (omega arith) h.1)))
+pub returns-in_err-number : goal.returns-in_err-number
+returns-in_err-number c =
+    let p = err_from_is_err_and c.from_residual-in_err-number.result c.from_residual-in_err-number.ensures.1 in
+    let s = subst (Five c.args.rest.now) c.in_ok-ink.ensures.ok_part c.five_fields.ensures in
+    rw (p.1, p.2) (inl (no_number _ _ _ 0 _ s refl (omega arith) c.in_err-number.ensures))
 
-pub returns-in_err-x1 : goal.returns-in_err-x1
-returns-in_err-x1 c =
-    let p = err_from_is_err_and c.from_residual-in_err-x1.result c.from_residual-in_err-x1.ensures.1 in
-    let h = c.in_err-x1.ensures in
-    rw (p.1, p.2) (inl (inr (h.0, not_numbers _ 5 (c.in-Some.i.now ∷ c.in-Some.x1.now ∷ c.in-Some.y1.now ∷ c.in-Some.x2.now ∷ c.in-Some.y2.now ∷ []) 1 refl c.in-Some.ensures (omega arith) h.1)))
+pub returns-in_err-number-2 : goal.returns-in_err-number-2
+returns-in_err-number-2 c =
+    let p = err_from_is_err_and c.from_residual-in_err-number-2.result c.from_residual-in_err-number-2.ensures.1 in
+    let s = subst (Five c.args.rest.now) c.in_ok-ink.ensures.ok_part c.five_fields.ensures in
+    rw (p.1, p.2) (inl (no_number _ _ _ 1 _ s refl (omega arith) c.in_err-number-2.ensures))
 
-pub returns-in_err-y1 : goal.returns-in_err-y1
-returns-in_err-y1 c =
-    let p = err_from_is_err_and c.from_residual-in_err-y1.result c.from_residual-in_err-y1.ensures.1 in
-    let h = c.in_err-y1.ensures in
-    rw (p.1, p.2) (inl (inr (h.0, not_numbers _ 5 (c.in-Some.i.now ∷ c.in-Some.x1.now ∷ c.in-Some.y1.now ∷ c.in-Some.x2.now ∷ c.in-Some.y2.now ∷ []) 2 refl c.in-Some.ensures (omega arith) h.1)))
+pub returns-in_err-number-3 : goal.returns-in_err-number-3
+returns-in_err-number-3 c =
+    let p = err_from_is_err_and c.from_residual-in_err-number-3.result c.from_residual-in_err-number-3.ensures.1 in
+    let s = subst (Five c.args.rest.now) c.in_ok-ink.ensures.ok_part c.five_fields.ensures in
+    rw (p.1, p.2) (inl (no_number _ _ _ 2 _ s refl (omega arith) c.in_err-number-3.ensures))
 
-pub returns-in_err-x2 : goal.returns-in_err-x2
-returns-in_err-x2 c =
-    let p = err_from_is_err_and c.from_residual-in_err-x2.result c.from_residual-in_err-x2.ensures.1 in
-    let h = c.in_err-x2.ensures in
-    rw (p.1, p.2) (inl (inr (h.0, not_numbers _ 5 (c.in-Some.i.now ∷ c.in-Some.x1.now ∷ c.in-Some.y1.now ∷ c.in-Some.x2.now ∷ c.in-Some.y2.now ∷ []) 3 refl c.in-Some.ensures (omega arith) h.1)))
+pub returns-in_err-number-4 : goal.returns-in_err-number-4
+returns-in_err-number-4 c =
+    let p = err_from_is_err_and c.from_residual-in_err-number-4.result c.from_residual-in_err-number-4.ensures.1 in
+    let s = subst (Five c.args.rest.now) c.in_ok-ink.ensures.ok_part c.five_fields.ensures in
+    rw (p.1, p.2) (inl (no_number _ _ _ 3 _ s refl (omega arith) c.in_err-number-4.ensures))
 
-pub returns-in_err-y2 : goal.returns-in_err-y2
-returns-in_err-y2 c =
-    let p = err_from_is_err_and c.from_residual-in_err-y2.result c.from_residual-in_err-y2.ensures.1 in
-    let h = c.in_err-y2.ensures in
-    rw (p.1, p.2) (inl (inr (h.0, not_numbers _ 5 (c.in-Some.i.now ∷ c.in-Some.x1.now ∷ c.in-Some.y1.now ∷ c.in-Some.x2.now ∷ c.in-Some.y2.now ∷ []) 4 refl c.in-Some.ensures (omega arith) h.1)))
+pub returns-in_err-number-5 : goal.returns-in_err-number-5
+returns-in_err-number-5 c =
+    let p = err_from_is_err_and c.from_residual-in_err-number-5.result c.from_residual-in_err-number-5.ensures.1 in
+    let s = subst (Five c.args.rest.now) c.in_ok-ink.ensures.ok_part c.five_fields.ensures in
+    rw (p.1, p.2) (inl (no_number _ _ _ 4 _ s refl (omega arith) c.in_err-number-5.ensures))
 
 pub returns : goal.returns
 returns c =
-    let fink : SFits w32 c.in_ok-ink.ink = search rules in
-    let fx1 : SFits w32 c.in_ok-x1.x1 = search rules in
-    let fy1 : SFits w32 c.in_ok-y1.y1 = search rules in
-    let fx2 : SFits w32 c.in_ok-x2.x2 = search rules in
-    let fy2 : SFits w32 c.in_ok-y2.y2 = search rules in
-    let hink = c.in_ok-ink.ensures in
-    let hx1 = c.in_ok-x1.ensures in
-    let hy1 = c.in_ok-y1.ensures in
-    let hx2 = c.in_ok-x2.ensures in
-    let hy2 = c.in_ok-y2.ensures in
+    let s = subst (Five c.args.rest.now) c.in_ok-ink.ensures.ok_part c.five_fields.ensures in
+    let f0 : SFits w32 c.in_ok-number.field-0 = search rules in
+    let h0 = c.in_ok-number.ensures in
+    let f1 : SFits w32 c.in_ok-number-2.field-0 = search rules in
+    let h1 = c.in_ok-number-2.ensures in
+    let f2 : SFits w32 c.in_ok-number-3.field-0 = search rules in
+    let h2 = c.in_ok-number-3.ensures in
+    let f3 : SFits w32 c.in_ok-number-4.field-0 = search rules in
+    let h3 = c.in_ok-number-4.ensures in
+    let f4 : SFits w32 c.in_ok-number-5.field-0 = search rules in
+    let h4 = c.in_ok-number-5.ensures in
     let made = simp to_z-of_z at c.cut.ensures in
-    cut_fields _ _ _ _ _ _ _ _ _ _ _ _ c.in-Some.ensures (record { short = hink.0; text = hink.1 }) (record { short = hx1.0; text = hx1.1 }) (record { short = hy1.0; text = hy1.1 }) (record { short = hx2.0; text = hx2.1 }) (record { short = hy2.0; text = hy2.1 }) made
+    cut_fields _ _ _ _ _ _ _ _ _ _ _ _ s (record { short = h0.0; text = h0.1 }) (record { short = h1.0; text = h1.1 }) (record { short = h2.0; text = h2.1 }) (record { short = h3.0; text = h3.1 }) (record { short = h4.0; text = h4.1 }) made

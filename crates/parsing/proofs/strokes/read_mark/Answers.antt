@@ -1,34 +1,36 @@
-use Rattle.std.proofs.Common.{[], ◌∷◌, refl, inl, inr, arith, w32, SFits, rules}
+use Rattle.std.proofs.Common.{refl, inl, subst, arith, w32, SFits, rules}
 use Rattle.std.proofs.lemmas.Result.{err_from_is_err_and}
 use Rattle.std.proofs.lemmas.Int.{to_z-of_z}
-use Rattle.parsing.proofs.Making.{not_numbers, mark_fields}
+use Rattle.reading.specs.Fields.{Three}
+use Rattle.parsing.proofs.Making.{no_number, mark_fields}
 use Rattle.parsing.proofs.strokes.read_mark.Goals as goal
 
-pub returns-in_err-ink : goal.returns-in_err-ink
-returns-in_err-ink c =
-    let p = err_from_is_err_and c.from_residual.result c.from_residual.ensures.1 in
-    let h = c.in_err-ink.ensures in
-    rw (p.1, p.2) (inl (inr (h.0, not_numbers _ 3 (c.in-Some.i.now ∷ c.in-Some.x.now ∷ c.in-Some.y.now ∷ []) 0 refl c.in-Some.ensures (omega arith) h.1)))
+pub returns-in_err-number : goal.returns-in_err-number
+returns-in_err-number c =
+    let p = err_from_is_err_and c.from_residual-in_err-number.result c.from_residual-in_err-number.ensures.1 in
+    let s = subst (Three c.args.rest.now) c.in_ok-ink.ensures.ok_part c.three_fields.ensures in
+    rw (p.1, p.2) (inl (no_number _ _ _ 0 _ s refl (omega arith) c.in_err-number.ensures))
 
-pub returns-in_err-x : goal.returns-in_err-x
-returns-in_err-x c =
-    let p = err_from_is_err_and c.from_residual-in_err-x.result c.from_residual-in_err-x.ensures.1 in
-    let h = c.in_err-x.ensures in
-    rw (p.1, p.2) (inl (inr (h.0, not_numbers _ 3 (c.in-Some.i.now ∷ c.in-Some.x.now ∷ c.in-Some.y.now ∷ []) 1 refl c.in-Some.ensures (omega arith) h.1)))
+pub returns-in_err-number-2 : goal.returns-in_err-number-2
+returns-in_err-number-2 c =
+    let p = err_from_is_err_and c.from_residual-in_err-number-2.result c.from_residual-in_err-number-2.ensures.1 in
+    let s = subst (Three c.args.rest.now) c.in_ok-ink.ensures.ok_part c.three_fields.ensures in
+    rw (p.1, p.2) (inl (no_number _ _ _ 1 _ s refl (omega arith) c.in_err-number-2.ensures))
 
-pub returns-in_err-y : goal.returns-in_err-y
-returns-in_err-y c =
-    let p = err_from_is_err_and c.from_residual-in_err-y.result c.from_residual-in_err-y.ensures.1 in
-    let h = c.in_err-y.ensures in
-    rw (p.1, p.2) (inl (inr (h.0, not_numbers _ 3 (c.in-Some.i.now ∷ c.in-Some.x.now ∷ c.in-Some.y.now ∷ []) 2 refl c.in-Some.ensures (omega arith) h.1)))
+pub returns-in_err-number-3 : goal.returns-in_err-number-3
+returns-in_err-number-3 c =
+    let p = err_from_is_err_and c.from_residual-in_err-number-3.result c.from_residual-in_err-number-3.ensures.1 in
+    let s = subst (Three c.args.rest.now) c.in_ok-ink.ensures.ok_part c.three_fields.ensures in
+    rw (p.1, p.2) (inl (no_number _ _ _ 2 _ s refl (omega arith) c.in_err-number-3.ensures))
 
 pub returns : goal.returns
 returns c =
-    let fink : SFits w32 c.in_ok-ink.ink = search rules in
-    let fx : SFits w32 c.in_ok-x.x = search rules in
-    let fy : SFits w32 c.in_ok-y.y = search rules in
-    let hink = c.in_ok-ink.ensures in
-    let hx = c.in_ok-x.ensures in
-    let hy = c.in_ok-y.ensures in
+    let s = subst (Three c.args.rest.now) c.in_ok-ink.ensures.ok_part c.three_fields.ensures in
+    let f0 : SFits w32 c.in_ok-number.field-0 = search rules in
+    let h0 = c.in_ok-number.ensures in
+    let f1 : SFits w32 c.in_ok-number-2.field-0 = search rules in
+    let h1 = c.in_ok-number-2.ensures in
+    let f2 : SFits w32 c.in_ok-number-3.field-0 = search rules in
+    let h2 = c.in_ok-number-3.ensures in
     let made = simp to_z-of_z at c.mark.ensures in
-    mark_fields _ _ _ _ _ _ _ _ c.in-Some.ensures (record { short = hink.0; text = hink.1 }) (record { short = hx.0; text = hx.1 }) (record { short = hy.0; text = hy.1 }) made
+    mark_fields _ _ _ _ _ _ _ _ s (record { short = h0.0; text = h0.1 }) (record { short = h1.0; text = h1.1 }) (record { short = h2.0; text = h2.1 }) made

@@ -1,13 +1,9 @@
-use Rattle.std.proofs.Common.{inl, inr}
-use Rattle.std.proofs.lemmas.Result.{err_from_is_err_and}
+use Rattle.std.proofs.Common.{rules}
+use Rattle.parsing.proofs.Stroking.{left_told, right_told}
 use Rattle.parsing.proofs.strokes.read_side.Goals as goal
 
-pub returns-in_err-read_stroke : goal.returns-in_err-read_stroke
-returns-in_err-read_stroke c =
-    let p = err_from_is_err_and c.from_residual.result c.from_residual.ensures.1 in
-    rw (p.1, p.2) (inl (_, inl c.in-Some.ensures, c.in_err-read_stroke.ensures))
+pub returns-in-Some : goal.returns-in-Some
+returns-in-Some c = left_told _ _ _ _ c.in-Some.ensures c.read_stroke.ensures (search rules)
 
-pub returns-in_err-read_stroke-2 : goal.returns-in_err-read_stroke-2
-returns-in_err-read_stroke-2 c =
-    let p = err_from_is_err_and c.from_residual-in_err-read_stroke-2.result c.from_residual-in_err-read_stroke-2.ensures.1 in
-    rw (p.1, p.2) (inl (_, inr c.in-Some-after_right.ensures, c.in_err-read_stroke-2.ensures))
+pub returns-in-Some-after_right : goal.returns-in-Some-after_right
+returns-in-Some-after_right c = right_told _ _ _ _ c.in-Some-after_right.ensures c.read_stroke-in-Some-after_right.ensures (search rules)

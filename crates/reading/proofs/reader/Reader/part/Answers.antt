@@ -1,4 +1,4 @@
-use Rattle.std.proofs.Common.{ℕ, ◌+◌, ◌-◌, max, List, take, drop, ap, ◌∙◌}
+use Rattle.std.proofs.Common.{◌≡◌, ℕ, ◌+◌, ◌-◌, min, max, List, length, take, drop, ap, ◌∙◌, arith}
 use Rattle.notation.specs.Lines.{newlines}
 use Rattle.reading.proofs.Stretches.{front_clipped, stretch_clipped}
 use Rattle.reading.proofs.reader.Reader.part.Goals as goal
@@ -7,7 +7,7 @@ pub returns : goal.returns
 returns c =
     let v = c.at_most-file.ensures.value in
     let f = c.min-from.ensures in
-    let t = c.max-to.ensures ∙ ap (λ (k : ℕ). max k c.min-from.result) c.min.ensures in
+    let t : c.clamp-to.result ≡ max (min c.args.to (length c.at_most-file.result.now)) c.min-from.result = omega (arith, c.clamp-to.ensures) in
     record {
       stretch = stretch_clipped _ c.args.from c.args.to _ _ f t ∙ ap (λ (xs : List ℕ). take (c.args.to - c.args.from) (drop c.args.from xs)) v;
       line = ap (λ (k : ℕ). 1 + k) (c.ends-first.ensures.value ∙ ap newlines (front_clipped _ c.args.from _ f) ∙ ap (λ (xs : List ℕ). newlines (take c.args.from xs)) v);

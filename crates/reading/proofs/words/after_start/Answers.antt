@@ -1,6 +1,0 @@
-use Rattle.std.proofs.Common.{codes, rules}
-use Rattle.reading.proofs.Opening.{opens}
-use Rattle.reading.proofs.words.after_start.Goals as goal
-
-pub returns-in-115 : goal.returns-in-115
-returns-in-115 c = opens _ (codes "start ") (search rules) (search rules)
