@@ -2,7 +2,7 @@
 ghost use Rattle.std.specs.Prelude.{◌≡◌};
 ghost use Rattle.run.specs.declared.bodies.Stop.TheVariants.{Refused as Refuses};
 
-use crate::listing::{Listing, rule_lengths};
+use crate::listing::Listing;
 use crate::tables::BothSheets;
 use commands::{Cut, Mark, SideLine, StepLine};
 use lattice::refusal::Refusal;
@@ -14,7 +14,7 @@ use rulebook::rulebook::Rulebook;
 use rulebook::table::Stretch;
 
 // Why a run ends before its output: it is refused, or it comes to a pick, which no layer below carries out yet.
-#[derive(Clone, Copy)]
+#[derive(Clone, Copy, PartialEq, Eq, Debug)]
 pub enum Stop {
     Refused(Refused),
     PickAhead(u32),
@@ -68,7 +68,7 @@ fn carry_side(line: Line, book: &mut Rulebook<Mark, Cut>) -> Result<(), Refusal>
 // All rules, in order.
 pub fn carry_rules(listing: &Listing, book: &mut Rulebook<Mark, Cut>) -> Result<(), Stop> {
     let mut from = listing.rules_from();
-    for &length in rule_lengths(&listing.contents) {
+    for &length in listing.contents.rules() {
         let to = from.saturating_add(length as usize);
         book.rule().map_err(|refusal| refused_at(refusal, 0))?;
         carry_lines(Reader::part(listing.file, from, to), |line| {

@@ -32,15 +32,11 @@ impl<'a> Listing<'a> {
     }
 }
 
-// How many bytes each rule has.
-pub(crate) fn rule_lengths(contents: &Contents) -> &[u32] {
-    &contents.rules[..contents.count.min(32)]
-}
-
 // How many bytes the bodies have together.
 fn total(contents: &Contents) -> u64 {
     let ends = u64::from(contents.start) + u64::from(contents.steps);
-    rule_lengths(contents)
+    contents
+        .rules()
         .iter()
         .fold(ends, |sum, &n| sum.saturating_add(u64::from(n)))
 }
