@@ -1,4 +1,3 @@
-pub mod Spelling
+pub mod Spacing
 pub mod Writing
-pub mod Sizes
 pub mod Lining

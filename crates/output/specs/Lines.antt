@@ -1,6 +1,6 @@
 -- A drawing as text: marks, then cuts, each a line, a cut with its lower end first.
-use Rattle.std.specs.Prelude.{ℕ, List, [], ◌∷◌, ◌++◌, map, codes, decimal}
-use Rattle.std.specs.List.{concat}
+use Rattle.std.specs.Prelude.{ℕ, List, [], ◌∷◌, ◌++◌, codes, decimal}
+use Rattle.std.specs.List.{flat_map}
 use Rattle.lattice.specs.Refusals.{number}
 use Rattle.notation.specs.declared.refused.Refused.{Refused}
 use Rattle.elements.specs.declared.ink.Ink.{Ink}
@@ -15,7 +15,7 @@ abbrev pub cut_line : Ink Segment → List ℕ
 cut_line c = cut_text c ++ (10 ∷ [])
 
 abbrev pub lines : {E : Type 0} → (E → List ℕ) → List E → List ℕ
-lines line xs = concat (map line xs)
+lines line xs = flat_map line xs
 
 abbrev pub drawing_text : List (Ink Point) → List (Ink Segment) → List ℕ
 drawing_text marks cuts = lines mark_line marks ++ lines cut_line cuts

@@ -1,8 +1,7 @@
 // Drawings and refusals as text in a buffer that the caller provides.
 #![tactic(auto)]
 
-mod decimals;
-mod lines;
+mod inscribed;
+mod line;
 pub mod refusals;
 pub mod show;
-mod strokes;

@@ -1,10 +1,10 @@
 // The drawing as lines: marks, then cuts.
-ghost use Rattle.std.specs.Prelude.{◌≡◌, ◌+◌, ◌<◌, ◌≤◌, List, length, MatchOption};
+ghost use Rattle.std.specs.Prelude.{◌≡◌, ◌+◌, ◌<◌, ◌≤◌, length, MatchOption};
 ghost use Rattle.output.specs.Wrote.{Wrote};
 ghost use Rattle.output.specs.Lines.{lines as Lines, drawing_text as DrawingText};
 ghost use Rattle.output.specs.Shown.{Shown};
 
-use crate::lines::Inscribed;
+use crate::inscribed::Inscribed;
 use commands::{Cut, Mark};
 use lattice::refusal::Refusal;
 
@@ -14,11 +14,7 @@ fn room_after<T: Inscribed>(xs: &[T], room: usize) -> Option<usize>
 {
     let mut left = room;
     for x in xs {
-        let n = x.size();
-        if n > left {
-            return None;
-        }
-        left -= n;
+        left = left.checked_sub(x.line().len())?;
     }
     Some(left)
 }
@@ -31,7 +27,7 @@ fn write_lines<T: Inscribed>(xs: &[T], out: &mut [u8], from: usize) -> usize
 {
     let mut at = from;
     for x in xs {
-        at = x.write(out, at);
+        at = x.line().write(out, at);
     }
     at
 }
@@ -40,12 +36,8 @@ fn write_lines<T: Inscribed>(xs: &[T], out: &mut [u8], from: usize) -> usize
 pub fn show(marks: &[Mark], cuts: &[Cut], out: &mut [u8]) -> Result<usize, Refusal>
     ensures { Shown (DrawingText marks.now cuts.now) out.old out.new result }
 {
-    let Some(room) = room_after(marks, out.len()) else {
-        return Err(Refusal::BufferFull);
-    };
-    let Some(_) = room_after(cuts, room) else {
-        return Err(Refusal::BufferFull);
-    };
+    let room = room_after(marks, out.len()).ok_or(Refusal::BufferFull)?;
+    room_after(cuts, room).ok_or(Refusal::BufferFull)?;
     let at = write_lines(marks, out, 0);
     Ok(write_lines(cuts, out, at))
 }

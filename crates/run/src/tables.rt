@@ -1,5 +1,9 @@
 // The tables that a run works in, all provided by its caller.
 use commands::{Cut, Mark};
+use lattice::refusal::Refusal;
+use rulebook::rulebook::{Rulebook, SideTables};
+use rulebook::stroke::Stroke;
+use sheets::sheet::Sheet;
 
 #[derive(Drop)]
 pub struct Tables<'a> {
@@ -9,4 +13,40 @@ pub struct Tables<'a> {
     pub right_cuts: &'a mut [Cut],
     pub marks: &'a mut [Mark],
     pub cuts: &'a mut [Cut],
+}
+
+// The two sheets that a run draws on.
+#[derive(Drop)]
+pub struct BothSheets<'a> {
+    pub marks: Sheet<'a, Mark>,
+    pub cuts: Sheet<'a, Cut>,
+}
+
+impl<'a> Tables<'a> {
+    // A rulebook without a rule and sheets without an element, in the tables.
+    pub(crate) fn open(self) -> Result<(Rulebook<'a, Mark, Cut>, BothSheets<'a>), Refusal> {
+        let Tables {
+            left_marks,
+            left_cuts,
+            right_marks,
+            right_cuts,
+            marks,
+            cuts,
+        } = self;
+        let left = SideTables::new(left_marks, left_cuts)?;
+        let right = SideTables::new(right_marks, right_cuts)?;
+        let marks = Sheet::new(marks)?;
+        let cuts = Sheet::new(cuts)?;
+        Ok((Rulebook::new(left, right), BothSheets { marks, cuts }))
+    }
+}
+
+impl BothSheets<'_> {
+    // Adds an element to the sheet of its kind.
+    pub(crate) fn add(&mut self, stroke: Stroke<Mark, Cut>) -> Result<(), Refusal> {
+        match stroke {
+            Stroke::Mark(e) => self.marks.add(e),
+            Stroke::Cut(e) => self.cuts.add(e),
+        }
+    }
 }

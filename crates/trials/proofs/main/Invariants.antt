@@ -1,5 +1,5 @@
-use Rattle.std.proofs.Common.{◌-◌, vec_len}
+use Rattle.std.proofs.Common.{length}
 use Rattle.trials.proofs.main.Given as goal
 
 abbrev pub decreases-loop-case : goal.decreases-loop-case
-decreases-loop-case l = vec_len l.text - l.at
+decreases-loop-case l = length l.rest

@@ -1,6 +1,0 @@
-use Rattle.std.proofs.Common.{length}
-use Rattle.reading.specs.Readers.{rest}
-use Rattle.run.proofs.bodies.carry_rule.Given as goal
-
-abbrev pub decreases-loop-line : goal.decreases-loop-line
-decreases-loop-line l = length (rest l.reader)
