@@ -45,7 +45,7 @@ impl Contents {
                 self.stage = Stage::Rules;
                 true
             }
-            (Stage::Rules, Entry::Rule(length)) if self.count < 32 => {
+            (Stage::Rules, Entry::Rule(length)) if self.count < self.rules.len() => {
                 self.rules[self.count] = length;
                 self.count += 1;
                 true

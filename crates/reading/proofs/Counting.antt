@@ -1,7 +1,7 @@
 -- How many lines end before a place of a text.
 use Rattle.std.proofs.Common.{◌≡◌, ℕ, suc, ◌+◌, ◌<◌, ◌≤◌, Bool, true, false, cond, List, [], ◌∷◌, ◌++◌, length, take, drop, refl, ap, ◌∙◌, one-add, arith, take-add, ltb, ltb-true}
 use mir.Val.{bool_byte}
-use Rattle.std.proofs.lemmas.List.Sums.{sum_by-append, sum_by-cons, sum_by-take-le, count_by-le-length}
+use Rattle.std.proofs.lemmas.List.Sums.{sum_by-append, sum_by-cons}
 use Rattle.std.proofs.lemmas.Bool.Decides.{nat_tests}
 use Rattle.notation.specs.Lines.{ends_line, newlines, in_line, line_length, is_ended, first_line, after_line}
 use Rattle.reading.proofs.Cutting.{cut_at}
@@ -62,9 +62,6 @@ count_next xs i n b false e h k =
 pub end_within : (n l b : ℕ) (t : Bool) → n ≤ l → ltb n l ≡ t → b ≡ bool_byte t → n + b ≤ l
 end_within n l b true w h k = let s = ltb-true n l h in omega (arith, k)
 end_within n l b false w h k = omega (arith, k)
-
-pub newlines_le : (xs : List ℕ) (i : ℕ) → newlines (take i xs) ≤ length xs
-newlines_le xs i = omega (arith, sum_by-take-le (λ y. cond (ends_line y) 1 0) xs i, count_by-le-length ends_line xs)
 
 -- a line with its end, and the bytes after it
 pub cut_line : (xs : List ℕ) → is_ended xs ≡ true → xs ≡ first_line xs ++ (10 ∷ after_line xs)

@@ -9,10 +9,6 @@ upto a b = grind arith
 take_none : {X : Type 0} (n : ℕ) (xs : List X) → xs ≡ [] → take n xs ≡ []
 take_none n xs e = take_all n xs (omega (arith, ap length e)) ∙ e
 
-pub front_clipped : {X : Type 0} (xs : List X) (from f : ℕ) → f ≡ min from (length xs) → take f xs ≡ take from xs
-front_clipped xs from f e =
-    ⊎_elim (λ h. ap (λ (k : ℕ). take k xs) (omega arith)) (λ h. take_all f xs (omega arith) ∙ sym (take_all from xs (omega arith))) (upto from (length xs))
-
 pub stretch_clipped : {X : Type 0} (xs : List X) (from to f t : ℕ) → f ≡ min from (length xs) → t ≡ max (min to (length xs)) f → take (t - f) (drop f xs) ≡ take (to - from) (drop from xs)
 stretch_clipped xs from to f t e g =
     ⊎_elim inside outside (upto from (length xs)) where
