@@ -16,7 +16,7 @@ pub type Cut = Ink<Segment>;
 pub type StartLine = Stroke<Mark, Cut>;
 
 // A line of a rule: one element for one of its sides.
-#[derive(Clone, Copy)]
+#[derive(Clone, Copy, PartialEq, Eq, Debug)]
 pub enum SideLine {
     Left(Stroke<Mark, Cut>),
     Right(Stroke<Mark, Cut>),

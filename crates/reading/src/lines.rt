@@ -8,7 +8,7 @@ use crate::parts::up_to;
 use crate::reader::Reader;
 
 // The greatest number of bytes that a file may have.
-const LONGEST: usize = 65536;
+pub const LONGEST: usize = 65536;
 
 // The first bytes of a slice, as many as there are up to a number.
 fn at_most(bytes: &[u8], most: usize) -> &[u8]

@@ -37,11 +37,7 @@ pub fn refused_at(refusal: Refusal, line: u32) -> Stop
 
 // The bytes of a line, which a byte 10 has to end.
 fn ended<'a>(line: Line<'a>) -> Result<&'a [u8], Refusal> {
-    if line.ended {
-        Ok(line.text)
-    } else {
-        Err(Refusal::BadLine)
-    }
+    line.whole().ok_or(Refusal::BadLine)
 }
 
 // Carries out each line of a body before the next is read. A refusal tells its line.

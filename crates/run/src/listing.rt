@@ -7,13 +7,11 @@ use lattice::refusal::Refusal;
 use notation::contents::Contents;
 use notation::refused::Refused;
 use parsing::listing::read_contents;
+pub use reading::lines::LONGEST;
 use reading::reader::Reader;
 
-// The most bytes that a file may have.
-pub const LONGEST: usize = 65536;
-
 // A file, its contents, and where its first body begins.
-#[derive(Clone, Copy)]
+#[derive(Clone, Copy, PartialEq, Eq, Debug)]
 pub struct Listing<'a> {
     pub file: &'a [u8],
     pub contents: Contents,
