@@ -1,6 +1,6 @@
 // A drawing: its sheets, their copies from before the first step, and the steps. The rulebook is held by a shared
 // reference, so that no rule changes while a drawing rests on it. The rulebook's tables ('a), the rulebook itself ('b) and
-// the drawing's tables ('c) are lent for times of their own.
+// the drawing's tables ('c) are lent for times of their own. The steps lie in memory of the caller too, with a count beside.
 ghost use Rattle.std.specs.Prelude.{◌≡◌, ◌≤◌, [], length, MatchResult};
 ghost use Rattle.lattice.specs.Refusals.{number as Number};
 ghost use Rattle.rulebook.specs.Rulebooks.{rules_of as RulesOf};

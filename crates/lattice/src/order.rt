@@ -1,4 +1,4 @@
-// The order of placements: by turn, then by the shift across, then by the shift up.
+// The order of placements: by turn, then by the shift across, then by the shift up, which is that of a tuple of the three.
 ghost use Rattle.std.specs.Prelude.{◌≡◌, Decides};
 ghost use Rattle.lattice.specs.Order.{Before, Earlier, triple as Triple, read as Reading};
 

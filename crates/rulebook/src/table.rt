@@ -16,6 +16,7 @@ pub struct Stretch {
     pub to: usize,
 }
 
+// The slots are lent by the caller, who has the memory, so the table counts for itself how many are used.
 #[derive(Drop)]
 pub struct Table<'a, K> {
     slots: &'a mut [K],

@@ -1,5 +1,6 @@
 // The first place after given numbers. Some atom of the left side goes to an atom of the drawing, and for each turn and each
-// such atom there is at most one placement to try.
+// such atom there is at most one placement to try. The numbers that it comes after and the best so far go through the
+// searches side by side; a struct of them would be taken apart at each step, since only the best changes.
 ghost use Rattle.std.specs.Prelude.{◌≡◌, true, false, ◌&&◌, T, pos, ◌<ℤ◌, Decides, MatchOption};
 ghost use Rattle.lattice.specs.Field.{shifting};
 ghost use Rattle.lattice.specs.Turns.{index as Index};

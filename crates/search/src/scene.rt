@@ -1,4 +1,5 @@
-// A left side, and the drawing on which it is looked for.
+// A left side, and the drawing on which it is looked for. That the drawing's elements stand in order is a premise of what is
+// found, and no fact of the type: a scene is made of slices, of which nothing is known.
 ghost use Rattle.std.specs.Prelude.{◌≡◌, true, Decides};
 ghost use Rattle.sheets.specs.Cover.{canonical};
 ghost use Rattle.search.specs.Scenes.{Canonical, Onto, Fits};

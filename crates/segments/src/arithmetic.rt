@@ -1,4 +1,5 @@
-// Arithmetic of coordinates, each step on its own.
+// Arithmetic of coordinates, each step on its own. The numbers are plain, and each step says how large they may be: a struct
+// of an end and a way would be made for one call and taken apart in it.
 ghost use Rattle.std.specs.Prelude.{◌≡◌, ◌<◌, ◌≤◌, true, ◌&&◌, pos, ◌+ℤ◌, ◌-ℤ◌, ◌*ℤ◌, unsigned_abs};
 ghost use Rattle.std.specs.Int.{◌∣◌};
 ghost use Rattle.lattice.specs.Field.{ranged};
@@ -88,7 +89,7 @@ pub fn shared(z: i32, n: u32) -> i32
     z / n as i32
 }
 
-// A coordinate k steps on, in the field.
+// A coordinate k steps on, in the field. It stays as small as it is stored; beyond the field `onward` has the wider type.
 pub fn advanced(z: i32, d: i32, k: i32) -> i32
     requires from { ranged z ≡ true }
     requires to { ranged (z +ℤ k *ℤ d) ≡ true }

@@ -41,7 +41,7 @@ pub fn is_same<K: Kind>(a: &K, b: &K) -> bool
     contains(a, b) && contains(b, a)
 }
 
-// What of `x` lies before the start of `e`.
+// What of `x` lies before the start of `e`, and below the same mirrored: other ends meet in each, and no number tells them apart.
 pub fn left_part<K: Kind>(x: K, e: &K) -> Option<K>
     ensures { LeftPart K.model e.now x result }
 {
