@@ -25,7 +25,8 @@ use Rattle.drawing.specs.View.{step_of, taken, state, setting, Lived, Goes}
 use Rattle.drawing.specs.declared.drawing.Drawing.{Drawing}
 use Rattle.drawing.specs.declared.records.StepRecord.{StepRecord}
 use Rattle.drawing.proofs.Lives.{length_map, goes_by, stays_by}
-use Rattle.drawing.proofs.Stays.{split_and, stays_in, leaves}
+use Rattle.std.proofs.lemmas.Bool.{and_parts}
+use Rattle.drawing.proofs.Stays.{stays_in, leaves}
 use Rattle.drawing.proofs.Strokes.{own}
 use Rattle.drawing.proofs.Turns.{clamped}
 
@@ -73,7 +74,7 @@ module _ {EM AM CM EC Ac CC : Type 0} (M : KindModel EM AM CM) (C : KindModel EC
   not_leaving e h =
       let q = some_one (sym h.2 ∙ ap (λ ps. nth ps (ordinal k)) (same_places M C (setting d).rules (covered M C (state d)) (ordinal r) h.0 listed) ∙ at.1) in
       let w = some_one (sym h.0.named ∙ f) in
-      let b = split_and (stays M p rule.right.marks) (stays C p rule.right.cuts) e in
+      let b = and_parts (stays M p rule.right.marks) (stays C p rule.right.cuts) e in
       go b.0 b.1 (subst (λ (y : Rule EM EC). Leaves M C p y.right) w (subst (λ (y : Placement). Leaves M C y h.0.rule.right) q h.3))
     where
       go : stays M p rule.right.marks ≡ true → stays C p rule.right.cuts ≡ true → Leaves M C p rule.right → ⊥

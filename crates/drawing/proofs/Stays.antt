@@ -1,6 +1,7 @@
 -- Elements that stay in the field when they are placed.
 use Rattle.std.proofs.Common.{◌≡◌, ℕ, zero, suc, ◌<◌, Bool, true, false, ◌&&◌, ◌||◌, ◌⊎◌, List, [], ◌∷◌, length, is_some, Some, None, Option, sym, refl, ap, ◌∙◌, inl, inr, arith}
 use Rattle.std.specs.Bool.{MatchBool}
+use Rattle.std.proofs.lemmas.Bool.{and_parts, and_right, or_cases, or_right}
 use Rattle.std.specs.List.{AllByRecursion, AllWithin, HoldsAt}
 use Rattle.std.proofs.lemmas.List.Elements.{All-from_all_within, recursion_from_All}
 use Rattle.lattice.specs.declared.placement.Placement.{Placement}
@@ -8,22 +9,6 @@ use Rattle.kinds.specs.Model.{KindModel, covers, moved}
 use Rattle.kinds.specs.Rules.{Rules}
 use Rattle.sheets.specs.Cover.{cover}
 use Rattle.drawing.specs.Changes.{stays}
-
-and_false : (x : Bool) → (x && false) ≡ false
-and_false true = refl
-and_false false = refl
-
-pub split_and : (x y : Bool) → (x && y) ≡ true → (x ≡ true) × (y ≡ true)
-split_and true y h = (refl, h)
-split_and false y h = let w : ◌≡◌ {A = ℕ} 0 1 = cc in absurd (omega arith)
-
-pub split_or : (x y : Bool) → (x || y) ≡ true → (x ≡ true) ⊎ (y ≡ true)
-split_or true y h = inl refl
-split_or false y h = inr h
-
-or_right : (x y : Bool) → y ≡ true → (x || y) ≡ true
-or_right true y h = refl
-or_right false y h = h
 
 module _ {E A C : Type 0} (m : KindModel E A C) where
   pub all_stay : (p : Placement) (xs : List E) → AllByRecursion (λ x. is_some (m.place p x) ≡ true) xs → true ≡ stays m p xs
@@ -33,7 +18,7 @@ module _ {E A C : Type 0} (m : KindModel E A C) where
   pub one_leaves : (p : Placement) (xs : List E) (k : ℕ) → k < length xs → HoldsAt (λ x. is_some (m.place p x) ≡ false) xs k → false ≡ stays m p xs
   one_leaves p [] k l h = absurd (omega arith)
   one_leaves p (x ∷ xs) zero l h = ap (λ (b : Bool). b && stays m p xs) (sym (h x))
-  one_leaves p (x ∷ xs) (suc k) l h = sym (ap (λ (b : Bool). is_some (m.place p x) && b) (sym (one_leaves p xs k (omega arith) h)) ∙ and_false (is_some (m.place p x)))
+  one_leaves p (x ∷ xs) (suc k) l h = sym (ap (λ (b : Bool). is_some (m.place p x) && b) (sym (one_leaves p xs k (omega arith) h)) ∙ and_right (is_some (m.place p x)) false refl)
 
   -- an answer that is true where all stay, and false where one leaves
   pub stays_told : (p : Placement) (xs : List E) (r : Bool) → MatchBool r (AllWithin (λ x. is_some (m.place p x) ≡ true) xs 0 (length xs)) ((k : ℕ) × (k < length xs) × HoldsAt (λ x. is_some (m.place p x) ≡ false) xs k) → r ≡ stays m p xs
@@ -46,7 +31,7 @@ module _ {E A C : Type 0} (m : KindModel E A C) where
   module _ (R : Rules m) (p : Placement) where
     pub stays_in : (xs : List E) → stays m p xs ≡ true → (a : A) → cover m xs a ≡ true → m.field (moved m p a) ≡ false → ⊥
     stays_in [] h a c i = let w : ◌≡◌ {A = ℕ} 0 1 = cc in omega arith
-    stays_in (x ∷ xs) h a c i = go (split_and (is_some (m.place p x)) (stays m p xs) h) (λ u k. stays_in xs u a k i) (split_or (covers m x a) (cover m xs a) c)
+    stays_in (x ∷ xs) h a c i = go (and_parts (is_some (m.place p x)) (stays m p xs) h) (λ u k. stays_in xs u a k i) (or_cases (covers m x a) (cover m xs a) c)
       where
         go : (is_some (m.place p x) ≡ true) × (stays m p xs ≡ true) → (stays m p xs ≡ true → cover m xs a ≡ true → ⊥) → (covers m x a ≡ true) ⊎ (cover m xs a ≡ true) → ⊥
         go s w (inl k) = none_not ((R.refused p x).1 (a, k, i)) s.0

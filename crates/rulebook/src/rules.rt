@@ -144,7 +144,7 @@ impl<'a, M: Kind, C: Kind> Rulebook<'a, M, C> {
         record_at(&self.records, self.count, ordinal(r) as usize)
     }
 
-    // The marks of a rule's left side.
+    // The marks of a rule's left side. It, and each of the three below, names fields of its own.
     pub fn left_marks(&self, found: RuleRecord) -> &[M]
         ensures { result.now ≡ (RuleOf self.now found).left.marks }
     {
