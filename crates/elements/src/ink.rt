@@ -3,7 +3,7 @@
 pub mod kind;
 pub mod make;
 
-#[derive(Clone, Copy, PartialEq, Eq, PartialOrd, Ord, Debug)]
+#[derive(Clone, Copy, PartialEq, Eq, Debug)]
 pub struct Ink<K> {
     ink: u8,
     under: K,

@@ -1,4 +1,5 @@
--- The eight turns: the index of each, and where the turn of an index takes the point (x, y). Past the eighth nothing is said.
+-- The eight turns: the index of each, and where the turn of an index takes the point (x, y). Of numbers past the eighth the
+-- images say nothing.
 use Rattle.std.specs.Prelude.{ℕ, List, [], ◌∷◌, ℤ, neg_ℤ, slice_index_or}
 use Rattle.lattice.specs.declared.turn.Turn.{Turn}
 use Rattle.lattice.specs.declared.turn.Turn.TheVariants.{Whole, Quarter, Half, ThreeQuarters, Mirrored, MirroredQuarter, MirroredHalf, MirroredThreeQuarters}

@@ -9,7 +9,7 @@ pub fn in_field(z: i64) -> bool
     (-2000..=2000).contains(&z)
 }
 
-// Whether a placement may shift so far.
+// Whether a placement may shift so far. It and the field have one line each, of other types and other bounds.
 pub fn may_shift(z: i32) -> bool
     ensures { result ≡ shifting z }
 {

@@ -26,7 +26,8 @@ impl Placement {
         before((turn, across, up), self.numbers())
     }
 
-    // Whether the placement comes before another.
+    // Whether the placement comes before another: by their numbers, since that an order derived for turns is that of their
+    // indices was not proved when it was tried.
     pub fn earlier(self, other: Placement) -> bool
         ensures { Decides result (Earlier self other) }
     {

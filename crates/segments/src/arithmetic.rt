@@ -35,7 +35,7 @@ pub fn sum(a: i32, b: i32) -> i64
 pub fn forward(dx: i64, dy: i64) -> bool
     ensures { result ≡ Forward dx dy }
 {
-    0 < dx || (0 <= dx && 0 < dy)
+    (0, 0) < (dx, dy)
 }
 
 // Whether the way is that of a unit edge.

@@ -7,6 +7,7 @@ ghost use Rattle.segments.specs.Segments.{first as First, segment_model as Segme
 
 use crate::arithmetic::{advanced, position, product};
 use crate::segment::{Edge, Segment};
+use kinds::kind::Kind;
 
 impl Segment {
     // The direction of the unit edges, across.
@@ -98,13 +99,7 @@ impl Segment {
     pub(crate) fn touches(&self, other: &Segment) -> bool
         ensures { Decides result (Touch SegmentModel self.now other.now) }
     {
-        if self.dx != other.dx {
-            return false;
-        }
-        if self.dy != other.dy {
-            return false;
-        }
-        if self.constant() != other.constant() {
+        if self.carrier() != other.carrier() {
             return false;
         }
         self.begins() <= other.ends() && other.begins() <= self.ends()

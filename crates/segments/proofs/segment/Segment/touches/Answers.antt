@@ -1,12 +1,26 @@
-use Rattle.std.proofs.Common.{◌≡◌, true, ℤ, ◌-ℤ◌, ◌*ℤ◌, ◌≤ℤ◌, sym, ◌∙◌, arith, w32, SFits, to_z, of_z, rules}
+use Rattle.std.proofs.Common.{◌≡◌, Bool, true, false, not, ◌&&◌, ℤ, ◌≤ℤ◌, sym, refl, ◌∙◌, arith, w32, SFits, to_z, of_z, rules}
 use lib.Signed.{le_z}
+use Rattle.std.specs.Ordering.{int_eq}
+use Rattle.std.proofs.lemmas.Bool.{true≢false, and_parts}
+use Rattle.std.proofs.lemmas.Bool.Decides.{Decides-int_eq}
 use Rattle.std.proofs.lemmas.Int.{ints, to_z-of_z}
 use Rattle.numbers.proofs.Tested.{le_test}
 use Rattle.segments.specs.Stretches.{starting, ending}
 use Rattle.segments.proofs.segment.Segment.touches.Goals as goal
 
-same_bits : (a b : ℤ) → SFits w32 a → SFits w32 b → of_z w32 a ≡ of_z w32 b → a ≡ b
-same_bits a b f g h = omega (arith, ints)
+unless : (x : Bool) → not x ≡ false → x ≡ true
+unless true h = refl
+unless false h = absurd (true≢false h)
+
+-- triples in which no two numbers differ
+alike : (a b : ℤ × ℤ × ℤ) (r : Bool) → r ≡ not ((int_eq a.0 b.0 && int_eq a.1 b.1) && int_eq a.2 b.2) → r ≡ false → a ≡ b
+alike a b r e h =
+    let p = and_parts (int_eq a.0 b.0 && int_eq a.1 b.1) (int_eq a.2 b.2) (unless _ (sym e ∙ h)) in
+    let q = and_parts (int_eq a.0 b.0) (int_eq a.1 b.1) p.0 in
+    let x = (Decides-int_eq a.0 b.0).0 q.0 in
+    let y = (Decides-int_eq a.1 b.1).0 q.1 in
+    let z = (Decides-int_eq a.2 b.2).0 p.1 in
+    λ i. (x i, y i, z i)
 
 up_to : (a b : ℤ) → le_z a b ≡ true → a ≤ℤ b
 up_to a b h = omega (arith, ints)
@@ -15,22 +29,14 @@ pub returns-then-begins-ends : goal.returns-then-begins-ends
 returns-then-begins-ends c =
     let d = c.args.self.now in
     let e = c.args.other.now in
-    let f1 : SFits w32 c.args.self.now.dx = search rules in
-    let f2 : SFits w32 c.args.other.now.dx = search rules in
-    let f3 : SFits w32 c.args.self.now.dy = search rules in
-    let f4 : SFits w32 c.args.other.now.dy = search rules in
-    let f5 : SFits w32 c.constant.result = search rules in
-    let f6 : SFits w32 c.constant-2.result = search rules in
     let g1 : SFits w32 c.begins.result = search rules in
     let g2 : SFits w32 c.ends.result = search rules in
     let g3 : SFits w32 c.begins-then-begins-ends.result = search rules in
     let g4 : SFits w32 c.ends-then-begins-ends.result = search rules in
-    let x = same_bits d.dx e.dx f1 f2 c.if-self-other.false in
-    let y = same_bits d.dy e.dy f3 f4 c.if-self-other-2.false in
-    let k : d.dx *ℤ d.y -ℤ d.dy *ℤ d.x ≡ e.dx *ℤ e.y -ℤ e.dy *ℤ e.x = sym c.constant.ensures ∙ same_bits c.constant.result c.constant-2.result f5 f6 c.if-constant.false ∙ c.constant-2.ensures in
+    let one = sym c.carrier.ensures ∙ alike c.carrier.result c.carrier-2.result c.ne.result c.ne.ensures c.if-ne.false ∙ c.carrier-2.ensures in
     let s : to_z w32 (of_z w32 c.begins.result) ≡ starting d = to_z-of_z w32 c.begins.result g1 ∙ c.begins.ensures.value in
     let t : to_z w32 (of_z w32 c.ends.result) ≡ ending e = to_z-of_z w32 c.ends.result g2 ∙ c.ends.ensures.value in
     let u : to_z w32 (of_z w32 c.begins-then-begins-ends.result) ≡ starting e = to_z-of_z w32 c.begins-then-begins-ends.result g3 ∙ c.begins-then-begins-ends.ensures.value in
     let v : to_z w32 (of_z w32 c.ends-then-begins-ends.result) ≡ ending d = to_z-of_z w32 c.ends-then-begins-ends.result g4 ∙ c.ends-then-begins-ends.ensures.value in
     let left = up_to (starting d) (ending e) ((λ i. le_z (sym s i) (sym t i)) ∙ c.if-begins-ends.true) in
-    (λ h. record { same = λ i. (x i, y i, k i); left = left; right = up_to (starting e) (ending d) ((λ i. le_z (sym u i) (sym v i)) ∙ h) }, λ h. (λ i. le_z (u i) (v i)) ∙ le_test (starting e) (ending d) h.right)
+    (λ h. record { same = one; left = left; right = up_to (starting e) (ending d) ((λ i. le_z (sym u i) (sym v i)) ∙ h) }, λ h. (λ i. le_z (u i) (v i)) ∙ le_test (starting e) (ending d) h.right)
