@@ -11,13 +11,6 @@ use crate::segment::Edge;
 use lattice::field::in_field;
 use numbers::gcd;
 
-// Whether a coordinate lies in the field.
-pub fn inside(z: i32) -> bool
-    ensures { result ≡ ranged z }
-{
-    in_field(i64::from(z))
-}
-
 // Whether a point lies in the field.
 pub fn both_inside(x: i64, y: i64) -> bool
     ensures { result ≡ (ranged x && ranged y) }

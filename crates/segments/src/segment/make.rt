@@ -2,40 +2,36 @@
 ghost use Rattle.std.specs.Prelude.{◌≡◌, true, ◌-ℤ◌};
 ghost use Rattle.lattice.specs.Field.{ranged};
 ghost use Rattle.segments.specs.Directions.{forward as Forward};
-ghost use Rattle.segments.specs.Segments.{SegmentMade, Spans, upper_x as UpperX, upper_y as UpperY, all_ranged as AllRanged};
+ghost use Rattle.segments.specs.Segments.{SegmentMade, Spans, upper_x as UpperX, upper_y as UpperY};
 
-use crate::arithmetic::{advanced, edges_between, forward, gap, inside, shared};
+use crate::arithmetic::{advanced, edges_between, forward, gap, shared};
 use crate::segment::Segment;
+use elements::point::Point;
 use lattice::refusal::Refusal;
 
-// Whether four coordinates lie in the field.
-fn all_inside(x: i32, y: i32, p: i32, q: i32) -> bool
-    ensures { result ≡ AllRanged x y p q }
-{
-    inside(x) && inside(y) && inside(p) && inside(q)
-}
-
 // Whether the way from one end to the other goes to the right, or straight up.
-fn goes_forward(x: i32, y: i32, p: i32, q: i32) -> bool
-    ensures { result ≡ Forward (p -ℤ x) (q -ℤ y) }
+fn goes_forward(from: Point, to: Point) -> bool
+    ensures { result ≡ Forward (to.x -ℤ from.x) (to.y -ℤ from.y) }
 {
-    forward(i64::from(p) - i64::from(x), i64::from(q) - i64::from(y))
+    forward(
+        i64::from(to.x()) - i64::from(from.x()),
+        i64::from(to.y()) - i64::from(from.y()),
+    )
 }
 
 // The segment from its lower end to its upper.
-fn spanned(x: i32, y: i32, p: i32, q: i32) -> Segment
-    requires field { AllRanged x y p q ≡ true }
-    requires up { Forward (p -ℤ x) (q -ℤ y) ≡ true }
-    ensures { Spans x y p q result }
+fn spanned(from: Point, to: Point) -> Segment
+    requires { Forward (to.x -ℤ from.x) (to.y -ℤ from.y) ≡ true }
+    ensures { Spans from.x from.y to.x to.y result }
 {
-    let w = gap(p, x);
-    let h = gap(q, y);
+    let w = gap(to.x(), from.x());
+    let h = gap(to.y(), from.y());
     let n = edges_between(w, h);
     let dx = shared(w, n);
     let dy = shared(h, n);
     Segment {
-        x,
-        y,
+        x: from.x(),
+        y: from.y(),
         dx,
         dy,
         edges: n as i32,
@@ -48,16 +44,15 @@ impl Segment {
     pub fn new(x1: i32, y1: i32, x2: i32, y2: i32) -> Result<Segment, Refusal>
         ensures { SegmentMade x1 y1 x2 y2 result }
     {
-        if !all_inside(x1, y1, x2, y2) {
-            return Err(Refusal::OutOfRange);
-        }
-        if x1 == x2 && y1 == y2 {
+        let one = Point::new(x1, y1)?;
+        let other = Point::new(x2, y2)?;
+        if one == other {
             return Err(Refusal::EqualEnds);
         }
-        if goes_forward(x1, y1, x2, y2) {
-            Ok(spanned(x1, y1, x2, y2))
+        if goes_forward(one, other) {
+            Ok(spanned(one, other))
         } else {
-            Ok(spanned(x2, y2, x1, y1))
+            Ok(spanned(other, one))
         }
     }
 
