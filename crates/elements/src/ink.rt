@@ -5,6 +5,9 @@ pub mod make;
 
 #[derive(Clone, Copy, PartialEq, Eq, Debug)]
 pub struct Ink<K> {
-    ink: u8,
-    under: K,
+    pub ink: u8,
+    pub under: K,
 }
+
+// Ink on an atom or on a carrier.
+pub type Inked<C> = Ink<C>;

@@ -89,9 +89,6 @@ way_back x y p q f n =
     let b = less_back y q in
     (λ i. forward (a i) (b i)) ∙ other_way (p -ℤ x) (q -ℤ y) f (λ h k. n (less_zero x p h) (less_zero y q k))
 
-pub swapped : (x y p q : ℤ) → all_ranged x y p q ≡ true → all_ranged p q x y ≡ true
-swapped x y p q h = let a = and_parts (ranged x && ranged y) _ h in and_from (ranged p && ranged q) _ a.1 a.0
-
 -- the numbers of the segment between two ends pass its tests
 pub record Spanned (x y p q dx dy n : ℤ) : Type 0 where
   pub passes : Passes x y dx dy n
