@@ -20,7 +20,7 @@ use Rattle.grammar.proofs.Exists.{numbered}
 use Rattle.grammar.proofs.Numbers.{some_one, none_some}
 use Rattle.grammar.proofs.Searching.{least_first}
 use Rattle.grammar.proofs.Uniform.{same_places}
-use Rattle.rulebook.specs.Rulebooks.{rules_of, rule_of}
+use Rattle.rulebook.specs.Rulebooks.{rules_of, rule_of, Finds}
 use Rattle.rulebook.specs.declared.records.RuleRecord.{RuleRecord}
 use Rattle.search.specs.Scenes.{sought, drawn, Canonical, Listed as Searched}
 use Rattle.search.specs.declared.scene.Scene.{Scene}
@@ -52,8 +52,10 @@ module _ {EM AM CM EC Ac CC : Type 0} (M : KindModel EM AM CM) (C : KindModel EC
       none (inl z) = nothing_covered M _ z.0 (subst (λ (es : List EM). length es ≤ 0) h.left_marks l) z.1
       none (inr z) = nothing_covered C _ z.0 (subst (λ (es : List EC). length es ≤ 0) h.left_cuts k) z.1
 
-  pub barred_missing : (r : ℕ) → nth (rules_of d.book.now) r ≡ None → Barred M C d r NoSuchRule
-  barred_missing r f = inl (refl, f)
+  -- the record that was found, where to find none is refused
+  pub found_by : (r : ℕ) (o : Option RuleRecord) (x : RuleRecord) → Ok x ≡ ok_or o NoSuchRule → Finds d.book.now r o → Finds d.book.now r (Some x)
+  found_by r None x e f = absurd (let z : ◌≡◌ {A = ℕ} 0 1 = cc in omega arith)
+  found_by r (Some y) x e f = let z : y ≡ x = cc in subst (λ (w : RuleRecord). Finds d.book.now r (Some w)) z f
 
   -- the same under another name of the rule's number
   pub seeks_named : (z r : ℤ) (s : Scene EM EC) → z ≡ r → Seeks M C d (ordinal z) s → Seeks M C d (ordinal r) s

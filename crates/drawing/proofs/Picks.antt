@@ -1,5 +1,5 @@
 -- A rule applied at one of its places.
-use Rattle.std.proofs.Common.{◌≡◌, ℕ, ◌+◌, ◌<◌, ◌≤◌, Bool, true, false, ◌&&◌, ◌⊎◌, List, [], ◌∷◌, ◌++◌, map, length, take, set, ℤ, Some, None, sym, refl, ap, ◌∙◌, subst, inl, inr, arith}
+use Rattle.std.proofs.Common.{◌≡◌, ℕ, ◌+◌, ◌<◌, ◌≤◌, Bool, true, false, ◌&&◌, ◌⊎◌, List, [], ◌∷◌, ◌++◌, map, length, take, set, ℤ, Some, sym, refl, ap, ◌∙◌, subst, inl, inr, arith}
 use Rattle.std.proofs.lemmas.Bool.{cases_lt}
 use Rattle.std.proofs.lemmas.List.{take_more_set, length-set, length-take, map-append}
 use Rattle.lattice.specs.declared.placement.Placement.{Placement}
@@ -156,9 +156,6 @@ module _ {EM AM CM EC Ac CC : Type 0} (M : KindModel EM AM CM) (C : KindModel EC
       ))
 
 module _ {EM AM CM EC Ac CC : Type 0} (M : KindModel EM AM CM) (C : KindModel EC Ac CC) (RM : Rules M) (RC : Rules C) where
-  pub pick_missing : (d : Drawing EM EC) (r k : ℤ) → nth (rules_of d.book.now) (ordinal r) ≡ None → Goes M C d (pick r k) (refused 13) d
-  pick_missing d r k e = stays_by M C RM RC d (pick r k) (refused 13) (λ l. (inl (e, refl), refl))
-
   -- the same of a rule's number under another name
   pub pick_named : (d d' : Drawing EM EC) (a : Answer) (x : RuleRecord) (p : Placement) (z r : ℤ) → z ≡ r
       → ((k : ℤ) → nth (rules_of d.book.now) (ordinal z) ≡ Some (rule_of d.book.now x) → Listing M C d (ordinal z) (ordinal k) p → Goes M C d (pick z k) a d')

@@ -33,9 +33,7 @@ impl<'a, 'b, 'c, M: Kind, C: Kind> Drawing<'a, 'b, 'c, M, C> {
     fn sought(&self, rule: i32) -> Result<Scene<M, C>, Refusal>
         ensures { MatchResult result (λ s. Seeks M.Kind.model C.Kind.model self.now (Ordinal rule) s) (λ why. Barred M.Kind.model C.Kind.model self.now (Ordinal rule) why) }
     {
-        let Some(found) = self.book.find(rule) else {
-            return Err(Refusal::NoSuchRule);
-        };
+        let found = self.book.find(rule).ok_or(Refusal::NoSuchRule)?;
         let scene = self.scene(found);
         if scene.left_marks.len() > 0 {
             return Ok(scene);

@@ -82,10 +82,7 @@ impl<'a, 'b, 'c, M: Kind, C: Kind> Drawing<'a, 'b, 'c, M, C> {
         ensures goes { (k : ℤ) → Listing M.Kind.model C.Kind.model self.old (Ordinal rule) (Ordinal k) p → Goes M.Kind.model C.Kind.model self.old (Pick rule k) (answer result (λ _. Done)) self.new }
         ensures kept { OnErr result (self.new ≡ self.old) }
     {
-        let book = self.book;
-        let Some(found) = book.find(rule) else {
-            return Err(Refusal::NoSuchRule);
-        };
+        let found = self.book.find(rule).ok_or(Refusal::NoSuchRule)?;
         self.apply_found(rule, found, p)
     }
 

@@ -2,7 +2,8 @@
 use crate::records::RuleRecord;
 use crate::table::Table;
 
-// The tables of one side.
+// The tables of one side. It is no generic pair of marks and cuts: the two fields are of different kinds, and each such pair
+// means another thing (tables here, stretches in a record, sheets in a drawing).
 #[derive(Drop)]
 pub struct SideTables<'a, M, C> {
     pub(crate) marks: Table<'a, M>,

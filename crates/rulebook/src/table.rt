@@ -64,7 +64,7 @@ impl<'a, K: Kind> Table<'a, K> {
         ensures { result.now ≡ StretchOf self.now.slots.now s }
     {
         let from = s.from.min(self.slots.len());
-        let to = s.to.min(self.slots.len()).max(from);
+        let to = s.to.clamp(from, self.slots.len());
         &self.slots[from..to]
     }
 

@@ -3,3 +3,4 @@ pub mod Ranks
 pub mod Walking
 pub mod Counting
 pub mod Searched
+pub mod Onto

@@ -2,12 +2,16 @@
 use Rattle.std.specs.Prelude.{◌≡◌, true, List}
 use Rattle.lattice.specs.declared.placement.Placement.{Placement}
 use Rattle.search.specs.declared.scene.Scene.{Scene}
-use Rattle.kinds.specs.Model.{KindModel, moved}
+use Rattle.kinds.specs.Model.{KindModel, covers, moved}
 use Rattle.sheets.specs.Cover.{cover, canonical}
 use Rattle.grammar.specs.Places.{Numbered}
 use Rattle.grammar.specs.Sets.{Sets}
 
 module _ {E A C : Type 0} (m : KindModel E A C) where
+  -- p takes every atom of the element to an atom of the list
+  abbrev pub OneOnto : E → List E → Placement → Type 0
+  OneOnto e drawn p = (a : A) → covers m e a ≡ true → cover m drawn (moved m p a) ≡ true
+
   -- p takes every atom of the first list to an atom of the second
   abbrev pub Onto : List E → List E → Placement → Type 0
   Onto left drawn p = (a : A) → cover m left a ≡ true → cover m drawn (moved m p a) ≡ true

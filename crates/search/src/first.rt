@@ -1,7 +1,9 @@
 // The first place after given numbers. Some atom of the left side goes to an atom of the drawing, and for each turn and each
 // such atom there is at most one placement to try. The numbers that it comes after and the best so far go through the
-// searches side by side; a struct of them would be taken apart at each step, since only the best changes.
-ghost use Rattle.std.specs.Prelude.{◌≡◌, true, false, ◌&&◌, T, pos, ◌<ℤ◌, Decides, MatchOption};
+// searches side by side; a struct of them would be taken apart at each step, since only the best changes. That the
+// atom which the searches start from lies in the field is a premise of what is found, like the order of the elements: an atom
+// may be any value of its type.
+ghost use Rattle.std.specs.Prelude.{◌≡◌, true, false, ◌&&◌, T, pos, ◌<ℤ◌, MatchOption};
 ghost use Rattle.lattice.specs.Field.{shifting};
 ghost use Rattle.lattice.specs.Turns.{index as Index};
 ghost use Rattle.lattice.specs.Order.{Before, triple as Triple};
@@ -13,16 +15,8 @@ ghost use Rattle.search.specs.Steps.{bound as Bound, After, Beats, Beaten, Tried
 
 use crate::scene::Scene;
 use kinds::kind::Kind;
-use lattice::order::before;
 use lattice::placement::Placement;
 use lattice::turn::Turn;
-
-// Whether `p` comes after the bound.
-fn is_after(bound: (i32, i32, i32), p: Placement) -> bool
-    ensures { Decides result (Before (Bound bound) (Triple p)) }
-{
-    before(bound, p.numbers())
-}
 
 // The placement of a turn and two shifts, if it may shift so far.
 fn shifted(turn: Turn, by: (i32, i32)) -> Option<Placement>
@@ -31,7 +25,7 @@ fn shifted(turn: Turn, by: (i32, i32)) -> Option<Placement>
     Placement::new(turn, by.0, by.1)
 }
 
-// Whether `q` comes before what was best so far.
+// Whether `q` comes before what was best so far. A `match`, since the proof by `is_none_or` with a closure did not close.
 fn beats(q: Placement, best: Option<Placement>) -> bool
     ensures yes { result ≡ true → Beats q best }
     ensures no { result ≡ false → Beaten q best }
@@ -68,7 +62,7 @@ impl<'a, M: Kind, C: Kind> Scene<'a, M, C> {
         ensures least { Canonical M.Kind.model C.Kind.model self.now → Tried (Bound after) best q (Fits M.Kind.model C.Kind.model self.now q) result }
         ensures later { After (Bound after) best → After (Bound after) result }
     {
-        if !is_after(after, q) {
+        if !q.after(after.0, after.1, after.2) {
             return best;
         }
         if !beats(q, best) {

@@ -20,10 +20,7 @@ pub struct Places<'s, 'a, M, C> {
 fn reached(last: Option<Placement>) -> (i32, i32, i32)
     ensures { Bound result ≡ Reached last }
 {
-    match last {
-        Some(p) => p.numbers(),
-        None => (-1, 0, 0),
-    }
+    last.map_or((-1, 0, 0), Placement::numbers)
 }
 
 impl<'s, 'a, M: Kind, C: Kind> Iterator for Places<'s, 'a, M, C> {

@@ -2,7 +2,7 @@
 // found, and no fact of the type: a scene is made of slices, of which nothing is known.
 ghost use Rattle.std.specs.Prelude.{◌≡◌, true, Decides};
 ghost use Rattle.sheets.specs.Cover.{canonical};
-ghost use Rattle.search.specs.Scenes.{Canonical, Onto, Fits};
+ghost use Rattle.search.specs.Scenes.{Canonical, OneOnto, Onto, Fits};
 
 use kinds::kind::Kind;
 use lattice::placement::Placement;
@@ -16,21 +16,22 @@ pub struct Scene<'a, M, C> {
     pub cuts: &'a [C],
 }
 
+// Whether `p` takes every atom of the element to an atom of the drawn ones. A `match`, since the proof by `is_some_and` with
+// a closure did not close.
+fn lands_within<K: Kind>(e: &K, drawn: &[K], p: Placement) -> bool
+    ensures { canonical K.model drawn.now ≡ true → Decides result (OneOnto K.model e.now drawn.now p) }
+{
+    match e.place(p) {
+        Some(f) => lies_within(&f, drawn),
+        None => false,
+    }
+}
+
 // Whether `p` takes every atom of the left elements to an atom of the drawn ones.
 fn is_onto<K: Kind>(left: &[K], drawn: &[K], p: Placement) -> bool
     ensures { canonical K.model drawn.now ≡ true → Decides result (Onto K.model left.now drawn.now p) }
 {
-    for e in left {
-        match e.place(p) {
-            Some(f) => {
-                if !lies_within(&f, drawn) {
-                    return false;
-                }
-            }
-            None => return false,
-        }
-    }
-    true
+    left.iter().all(|e| lands_within(e, drawn, p))
 }
 
 impl<'a, M: Kind, C: Kind> Scene<'a, M, C> {
@@ -38,9 +39,6 @@ impl<'a, M: Kind, C: Kind> Scene<'a, M, C> {
     pub fn fits(&self, p: Placement) -> bool
         ensures { Canonical M.Kind.model C.Kind.model self.now → Decides result (Fits M.Kind.model C.Kind.model self.now p) }
     {
-        if !is_onto(self.left_marks, self.marks, p) {
-            return false;
-        }
-        is_onto(self.left_cuts, self.cuts, p)
+        is_onto(self.left_marks, self.marks, p) && is_onto(self.left_cuts, self.cuts, p)
     }
 }

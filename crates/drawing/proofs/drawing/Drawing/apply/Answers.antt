@@ -1,17 +1,13 @@
-use Rattle.std.proofs.Common.{ℤ, sym, refl, ap, ◌∙◌, to_z-of_z}
-use Rattle.grammar.specs.Numbers.{nth, ordinal}
-use Rattle.rulebook.specs.Rulebooks.{rules_of}
-use Rattle.drawing.proofs.Picks.{pick_missing, pick_named}
+use Rattle.std.proofs.Common.{to_z-of_z}
+use Rattle.drawing.proofs.Asked.{found_by}
+use Rattle.drawing.proofs.Picks.{pick_named}
 use Rattle.drawing.proofs.drawing.Drawing.apply.Goals as goal
 
-pub returns : goal.returns
-returns g c = record {
-  goes = pick_named g.M.Kind.model g.C.Kind.model g.met.M.Kind.rules g.met.C.Kind.rules c.args.self.now c.apply_found.new.self _ c.in-Some.found c.args.p _ c.args.rule (to_z-of_z c.ranges.rule) c.apply_found.ensures.goes c.in-Some.ensures;
-  kept = c.apply_found.ensures.kept;
-}
-
-pub returns-in_default : goal.returns-in_default
-returns-in_default g c = record {
-  goes = λ k l. pick_missing g.M.Kind.model g.C.Kind.model g.met.M.Kind.rules g.met.C.Kind.rules c.args.self.now c.args.rule k (ap (λ (z : ℤ). nth (rules_of c.args.self.now.book.now) (ordinal z)) (sym (to_z-of_z c.ranges.rule)) ∙ c.in_default.ensures);
-  kept = refl;
-}
+pub returns-clause-goes : goal.returns-clause-goes
+returns-clause-goes g c =
+    let M = g.M.Kind.model in
+    let C = g.C.Kind.model in
+    let RM = g.met.M.Kind.rules in
+    let RC = g.met.C.Kind.rules in
+    let f = found_by M C RM RC c.args.self.now _ c.find.result c.in_ok-found.found c.in_ok-found.ensures.value c.find.ensures in
+    pick_named M C RM RC c.args.self.now c.apply_found.new.self _ c.in_ok-found.found c.args.p _ c.args.rule (to_z-of_z c.ranges.rule) c.apply_found.ensures.goes f
