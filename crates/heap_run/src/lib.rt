@@ -69,13 +69,11 @@ pub fn carry_out(heap: Global, file: &[u8]) -> Result<Result<Vec<u8>, Stop>, All
     ensures text { IfOk result (λ answer. IfOk answer (λ text. vec_len text ≤ LONGEST_TEXT)) }
 {
     let mut text = buffer(heap, LONGEST_TEXT)?;
-    match carry_into(heap, file, text.as_mut_slice())? {
-        Ok(n) => {
-            text.truncate(n);
-            Ok(Ok(text))
-        }
-        Err(stop) => Ok(Err(stop)),
-    }
+    let answer = carry_into(heap, file, text.as_mut_slice())?;
+    Ok(answer.map(|n| {
+        text.truncate(n);
+        text
+    }))
 }
 
 // The line that tells of a refusal.
