@@ -11,6 +11,7 @@ use segments::segment::Segment;
 pub fn worked_edge(inner: u8, outer: u8) -> Option<Ink<Ink<Segment>>>
     ensures { MatchOption result ⊥ (λ e. (TwiceInked.carrier e ≡ Inking outer (Inking inner (pos 2, pos 1, pos 1))) × (TwiceInked.start e ≡ negsuc 1) × (TwiceInked.end e ≡ negsuc 0)) }
 {
+    // Each refusal has an `else`: with `?` on `.ok()` the proof that no refusal comes stays open.
     let Ok(edge) = Segment::new(-1, 0, -3, -1) else {
         return None;
     };

@@ -10,7 +10,7 @@ use commands::{Cut, Mark};
 use elements::ink::Ink;
 use elements::point::Point;
 use notation::refused::Refused;
-use output::refusals::refusal_line;
+use output::refusals::{refusal_line, LONGEST_LINE};
 use run::bodies::Stop;
 use run::run::run;
 use run::tables::Tables;
@@ -69,20 +69,18 @@ pub fn carry_out(heap: Global, file: &[u8]) -> Result<Result<Vec<u8>, Stop>, All
     ensures text { IfOk result (λ answer. IfOk answer (λ text. vec_len text ≤ LONGEST_TEXT)) }
 {
     let mut text = buffer(heap, LONGEST_TEXT)?;
-    match carry_into(heap, file, text.as_mut_slice())? {
-        Ok(n) => {
-            text.truncate(n);
-            Ok(Ok(text))
-        }
-        Err(stop) => Ok(Err(stop)),
-    }
+    let answer = carry_into(heap, file, text.as_mut_slice())?;
+    Ok(answer.map(|n| {
+        text.truncate(n);
+        text
+    }))
 }
 
 // The line that tells of a refusal.
 pub fn refusal_text(heap: Global, refused: Refused) -> Result<Vec<u8>, AllocError>
     ensures { IfOk result (λ text. text.items ≡ RefusalLine refused) }
 {
-    let mut text = buffer(heap, 64)?;
+    let mut text = buffer(heap, LONGEST_LINE)?;
     let n = refusal_line(refused, text.as_mut_slice()).unwrap();
     text.truncate(n);
     Ok(text)

@@ -1,4 +1,4 @@
-// Kinds of elements: what every kind means and keeps, and the kinds that there are.
+// Kinds of elements: what every kind means and keeps, as one trait.
 #![tactic(auto)]
 
 pub mod kind;

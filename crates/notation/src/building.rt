@@ -2,7 +2,7 @@
 ghost use Rattle.std.specs.Prelude.{◌≡◌, [], length, Decides};
 ghost use Rattle.notation.specs.Contents.{entries, rule_lengths, Proper, Admits};
 
-use crate::contents::{Contents, Entry, Stage};
+use crate::contents::{Contents, Entry, MOST_RULES, Stage};
 
 impl Contents {
     // No entry yet.
@@ -13,7 +13,7 @@ impl Contents {
         Contents {
             stage: Stage::Start,
             start: 0,
-            rules: [0; 32],
+            rules: [0; MOST_RULES],
             count: 0,
             steps: 0,
         }

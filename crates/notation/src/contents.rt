@@ -1,5 +1,9 @@
 // The contents of a grammar file: how many bytes each part of it has.
 ghost use Rattle.std.specs.Prelude.{◌≤◌};
+ghost use Rattle.notation.specs.declared.contents.TheConstants.{MOST_RULES};
+
+// The most rules that a file may have.
+pub const MOST_RULES: usize = 32;
 
 // One line of the contents.
 #[derive(Clone, Copy, PartialEq, Eq, Debug)]
@@ -19,14 +23,14 @@ pub enum Stage {
     Whole,
 }
 
-// The lengths that were read: of the start, of the first `count` rules, and of the steps. The rules lie in an array of the
-// greatest number of them, with a count: contents are copied as a value, and no memory is allocated for them.
+// The lengths that were read: of the start, of the first `count` rules, and of the steps. The rules lie in an array with a
+// count, since contents are copied as a value (`Copy`), which a list in memory of its own is not.
 #[derive(Clone, Copy, PartialEq, Eq, Debug)]
 pub struct Contents {
     pub stage: Stage,
     pub start: u32,
-    pub rules: [u32; 32],
+    pub rules: [u32; MOST_RULES],
     pub count: usize,
     pub steps: u32,
-    ghost few: { count ≤ 32 },
+    ghost few: { count ≤ MOST_RULES },
 }

@@ -1,5 +1,4 @@
-// A refusal with the line of the file that brought it about, or 0 where none did: a refusal is printed with a line, and
-// with `line 0` then.
+// A refusal with the line of the file that brought it about. The line is a plain number, as it is printed: 0 for none.
 use lattice::refusal::Refusal;
 
 #[derive(Clone, Copy, PartialEq, Eq, Debug)]

@@ -8,10 +8,14 @@ use arrayvec::ArrayVec;
 use itoa::{Buffer, Integer};
 use std::marker::Model;
 
-// No line is longer than that of a cut, of 3 letters, 5 numbers of up to 12 bytes with the space before each, and its end.
+// The most bytes that a line has. They are those of a cut: 3 letters, 5 numbers of up to 12 bytes with the space before each,
+// and the end.
+pub const LONGEST_LINE: usize = 64;
+
+// Its bytes so far, with room for those of the longest line.
 #[derive(Drop)]
 pub(crate) struct Line {
-    bytes: ArrayVec<u8, 64>,
+    bytes: ArrayVec<u8, LONGEST_LINE>,
 }
 
 // A contract sees the bytes.
@@ -35,7 +39,7 @@ impl Line {
 
     // Puts bytes behind the others, where there is room for them.
     pub(crate) fn put(&mut self, bytes: &[u8])
-        requires { length self.old + length bytes.now ≤ 64 }
+        requires { length self.old + length bytes.now ≤ LONGEST_LINE }
         ensures { self.new ≡ self.old ++ bytes.now }
     {
         // It does, by what is required, so there is nothing to hand on.
@@ -44,7 +48,7 @@ impl Line {
 
     // Puts a space and a number behind the others.
     pub(crate) fn field<N: Integer>(&mut self, number: N)
-        requires { length self.old + N.MAX_STR_LEN < 64 }
+        requires { length self.old + N.MAX_STR_LEN < LONGEST_LINE }
         ensures text { self.new ≡ self.old ++ (32 ∷ N.text number) }
         ensures few { length self.new ≤ length self.old + N.MAX_STR_LEN + 1 }
     {
@@ -54,7 +58,7 @@ impl Line {
 
     // Puts the byte 10 behind the others.
     pub(crate) fn end(&mut self)
-        requires { length self.old < 64 }
+        requires { length self.old < LONGEST_LINE }
         ensures { self.new ≡ self.old ++ (10 ∷ []) }
     {
         self.put(b"\n");
@@ -62,7 +66,7 @@ impl Line {
 
     // The line of a command: its word, and its numbers.
     pub(crate) fn command(word: &[u8], numbers: &[i32]) -> Line
-        requires { length word.now + 12 * length numbers.now < 64 }
+        requires { length word.now + 12 * length numbers.now < LONGEST_LINE }
         ensures { result ≡ command_line word.now numbers.now }
     {
         let mut line = Line::new();
@@ -77,7 +81,7 @@ impl Line {
     // How many bytes it has.
     pub(crate) fn len(&self) -> usize
         ensures value { result ≡ length self.now }
-        ensures few { result ≤ 64 }
+        ensures few { result ≤ LONGEST_LINE }
     {
         self.bytes.len()
     }

@@ -4,13 +4,15 @@ ghost use Rattle.output.specs.Lines.{refusal_line as RefusalLine};
 ghost use Rattle.output.specs.Shown.{Shown};
 
 use crate::inscribed::Inscribed;
+pub use crate::line::LONGEST_LINE;
 use lattice::refusal::Refusal;
 use notation::refused::Refused;
 
-// Writes the line into the front of the buffer and answers how many bytes it has, which are no more than 64.
+// Writes the line into the front of the buffer and answers how many bytes it has, which are no more than those of the
+// longest line.
 pub fn refusal_line(refused: Refused, out: &mut [u8]) -> Result<usize, Refusal>
     ensures shown { Shown (RefusalLine refused) out.old out.new result }
-    ensures short { 64 ≤ length out.old → IsOk result }
+    ensures short { LONGEST_LINE ≤ length out.old → IsOk result }
 {
     let line = refused.line();
     if line.len() > out.len() {

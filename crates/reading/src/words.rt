@@ -1,5 +1,5 @@
-// The words that open a line, each told by a pattern over its bytes that names what follows. A word has a function of its
-// own: a pattern names its bytes one by one, and is the same for no two words.
+// The words that open a line, each told by a pattern over its bytes that names what follows: that is the form in which lines
+// are told here. A word has a function of its own: a pattern names its bytes one by one, and is the same for no two words.
 #![tactic(auto, using(crate::proofs::Opening::opens))]
 
 ghost use Rattle.std.specs.Prelude.{◌≡◌, codes, Decides};

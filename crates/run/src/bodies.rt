@@ -13,7 +13,8 @@ use reading::reader::Reader;
 use rulebook::rulebook::Rulebook;
 use rulebook::table::Stretch;
 
-// Why a run ends before its output: it is refused, or it comes to a pick, which no layer below carries out yet.
+// Why a run ends before its output: it is refused, or it comes to a pick. The crate `drawing` carries picks out, but `run`
+// does not rest on it yet.
 #[derive(Clone, Copy, PartialEq, Eq, Debug)]
 pub enum Stop {
     Refused(Refused),

@@ -154,6 +154,7 @@ impl<'a, K: Kind> Sheet<'a, K> {
     }
 
     // How many atoms the sheet covers. If it is not sound, the sum of its elements' atoms, or the greatest number if that is more.
+    // It is counted by a `for` over the counted part of the slots, adding each span.
     pub fn atoms(&self) -> u64
         ensures value { result ≡ min (sizes K.model (items self.now)) (2 ^ 64 - 1) }
         ensures exact { Sound K.model self.now → Census (covered K.model self.now) result }

@@ -10,7 +10,8 @@ use crate::sheet::Sheet;
 use kinds::kind::Kind;
 use lattice::refusal::Refusal;
 
-// The first `count` slots become their sum with `e`; answers how many slots that takes.
+// The first `count` slots become their sum with `e`; answers how many slots that takes. Slots and count are the caller's, so
+// they come as two and the new count is handed back.
 pub fn sum_into<K: Kind>(slots: &mut [K], count: usize, e: K) -> Result<usize, Refusal>
     ensures { MatchResult result (λ n. SlotsBecame K.model count e n slots.old slots.new) (λ why. SlotsStayed K.model count e why slots.old slots.new) }
 {
