@@ -10,8 +10,8 @@ pub struct SideTables<'a, M, C> {
     pub(crate) cuts: Table<'a, C>,
 }
 
-// Records of 32 rules, of which the first `count` are kept, and the tables of their two sides. The records lie in an array
-// with a count, and in no list that grows, since the library allocates no memory.
+// Records of 32 rules, of which the first `count` are kept, and the tables of their two sides. The records are plain
+// and lie in an array with a count, and the latest is lent to be changed.
 #[derive(Drop)]
 pub struct Rulebook<'a, M, C> {
     pub(crate) records: [RuleRecord; 32],
