@@ -38,7 +38,8 @@ impl<'a, M: Kind, C: Kind> Scene<'a, M, C> {
         self.places().nth(before as usize)
     }
 
-    // Writes the places in order, as many as there is room for, and says how many.
+    // Writes the places in order, as many as there is room for, and says how many. The places are taken by `next`: the borrow
+    // checker does not yet read a `zip` of slots that are lent to be changed with an iterator of the crate's own.
     fn write(&self, out: &mut [Placement]) -> usize
         ensures { (ps : List Placement) → Listed M.Kind.model C.Kind.model self.now ps → (result ≡ min (length ps) (length out.old)) × (out.new ≡ take result ps ++ drop result out.old) }
     {
