@@ -10,7 +10,7 @@ use commands::{Cut, Mark};
 use elements::ink::Ink;
 use elements::point::Point;
 use notation::refused::Refused;
-use output::refusals::{refusal_line, LONGEST_LINE};
+use output::refusals::{LONGEST_LINE, refusal_line};
 use run::bodies::Stop;
 use run::run::run;
 use run::tables::Tables;
