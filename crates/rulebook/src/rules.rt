@@ -12,9 +12,7 @@ use crate::table::{Stretch, Table};
 use grammar::ordinal::ordinal;
 use kinds::kind::Kind;
 use lattice::refusal::Refusal;
-
-// The most rules that a rulebook can have.
-pub const MOST_RULES: usize = 32;
+pub use notation::contents::MOST_RULES;
 
 const EMPTY: Stretch = Stretch { from: 0, to: 0 };
 
