@@ -1,6 +1,7 @@
 // The rulebook itself.
 use crate::records::RuleRecord;
 use crate::table::Table;
+use notation::contents::MOST_RULES;
 
 // The tables of one side. It is no generic pair of marks and cuts: the two fields are of different kinds, and each such pair
 // means another thing (tables here, stretches in a record, sheets in a drawing).
@@ -14,7 +15,7 @@ pub struct SideTables<'a, M, C> {
 // and lie in an array with a count, and the latest is lent to be changed.
 #[derive(Drop)]
 pub struct Rulebook<'a, M, C> {
-    pub(crate) records: [RuleRecord; 32],
+    pub(crate) records: [RuleRecord; MOST_RULES],
     pub(crate) count: usize,
     pub(crate) left: SideTables<'a, M, C>,
     pub(crate) right: SideTables<'a, M, C>,

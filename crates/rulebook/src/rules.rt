@@ -82,7 +82,7 @@ impl<'a, M: Kind, C: Kind> Rulebook<'a, M, C> {
             records: [RuleRecord {
                 left: side,
                 right: side,
-            }; 32],
+            }; MOST_RULES],
             count: 0,
             left,
             right,
