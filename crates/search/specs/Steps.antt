@@ -1,5 +1,4 @@
 -- What a search shows of the part that it has gone through.
--- three numbers, read as a turn, a shift across and a shift up
 use Rattle.std.specs.Prelude.{◌≡◌, ℕ, true, ◌⊎◌, List, [], ℤ, Some, None, Option}
 use Rattle.lattice.specs.declared.placement.Placement.{Placement}
 use Rattle.lattice.specs.Order.{Triple, read, triple, Before, Earlier}
@@ -8,6 +7,7 @@ use Rattle.sheets.specs.Cover.{cover}
 use Rattle.grammar.specs.Places.{LeastOf}
 use Rattle.lattice.specs.Turns.{index}
 
+-- three numbers, read as a turn, a shift across and a shift up
 abbrev pub bound : ℤ × ℤ × ℤ → Triple
 bound t = read t.0 t.1 t.2
 

@@ -30,6 +30,7 @@ impl<'s, 'a, M: Kind, C: Kind> Iterator for Places<'s, 'a, M, C> {
 
     ghost next_gives = { λ s r t. Gives M.Kind.model C.Kind.model s r t };
 
+    // No rank reaches 576144009, which is 9 times 8001 times 8001.
     ghost remaining = { λ s. at_most (576144009 - rank (Reached s.last)) };
 
     fn next(&mut self) -> Option<Placement> {
