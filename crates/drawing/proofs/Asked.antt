@@ -110,10 +110,10 @@ module _ {EM AM CM EC Ac CC : Type 0} (M : KindModel EM AM CM) (C : KindModel EC
     }
 
     -- a place that the search found
-    place_found : (n : ℤ) (p : Placement) → ((ps : List Placement) → Searched M C s ps → Some p ≡ nth ps (ordinal n)) → (t : Setting EM EC) (es : List (Event EM EC)) → Lived M C t es d → Listing M C d (ordinal r) (ordinal n) p
+    pub place_found : (n : ℤ) (p : Placement) → ((ps : List Placement) → Searched M C s ps → Some p ≡ nth ps (ordinal n)) → (t : Setting EM EC) (es : List (Event EM EC)) → Lived M C t es d → Listing M C d (ordinal r) (ordinal n) p
     place_found n p h t es v = (places, sym (h places.places (searched (alive M C RM RC t es d v))))
 
-    place_missing : (n : ℤ) → ((ps : List Placement) → Searched M C s ps → None ≡ nth ps (ordinal n)) → Goes M C d (pick r n) (refused 15) d
+    pub place_missing : (n : ℤ) → ((ps : List Placement) → Searched M C s ps → None ≡ nth ps (ordinal n)) → Goes M C d (pick r n) (refused 15) d
     place_missing n h = stays_by M C RM RC d (pick r n) (refused 15) (λ l. (inr (found, inr (not_empty, inl ((places, sym (h places.places (searched l))), refl))), refl))
 
     abbrev Told : ℤ → Result Placement Refusal → Type 0

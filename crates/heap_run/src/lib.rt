@@ -1,7 +1,8 @@
 // A grammar file carried out on the heap, for programs: the library takes its tables and its buffers from the caller.
 #![tactic(auto)]
 
-ghost use Rattle.std.specs.Prelude.{◌≡◌, ◌≤◌, length, Err, MatchResult, IfOk, vec_len};
+ghost use Rattle.std.specs.Prelude.{◌≡◌, ◌≤◌, ◌++◌, length, drop, Ok, Err, MatchResult, IfOk, OnErr, vec_len};
+ghost use Rattle.output.specs.declared.line.TheConstants.{LONGEST_LINE};
 ghost use Rattle.output.specs.Lines.{refusal_line as RefusalLine};
 ghost use Rattle.run.specs.Openings.{OpensGrammar, not_a_grammar as NotAGrammar};
 ghost use Rattle.run.specs.declared.bodies.Stop.TheVariants.{Refused as Refuses};
@@ -41,9 +42,14 @@ fn buffer(heap: Global, len: usize) -> Result<Vec<u8>, AllocError>
 }
 
 // Carries out the file in new tables, and writes the drawing that it leaves into the front of the buffer.
-fn carry_into(heap: Global, file: &[u8], out: &mut [u8]) -> Result<Result<usize, Stop>, AllocError>
+pub fn carry_into(
+    heap: Global,
+    file: &[u8],
+    out: &mut [u8],
+) -> Result<Result<usize, Stop>, AllocError>
     ensures not_a_grammar { IfOk result (λ answer. (OpensGrammar file.now → ⊥) → answer ≡ Err (Refuses NotAGrammar)) }
     ensures written { IfOk result (λ answer. MatchResult answer (λ n. n ≤ length out.old) (λ _. out.new ≡ out.old)) }
+    ensures kept { OnErr result (out.new ≡ out.old) }
 {
     let (mark, cut) = (any_mark(), any_cut());
     let mut left_marks = vec![in heap; mark; SLOTS]?;
@@ -61,6 +67,25 @@ fn carry_into(heap: Global, file: &[u8], out: &mut [u8]) -> Result<Result<usize,
         cuts: cuts.as_mut_slice(),
     };
     Ok(run(file, tables, out))
+}
+
+// The same, with the line of a refusal in the front of the buffer, if it has room for that, where the file is refused: so a
+// program that has its buffer needs no other memory to tell of a refusal, and one that carries out many files keeps one buffer
+// for all. The answer is how many bytes are to be printed, or the line of a pick that it comes to.
+pub fn print_into(
+    heap: Global,
+    file: &[u8],
+    out: &mut [u8],
+) -> Result<Result<usize, u32>, AllocError>
+    ensures printed { IfOk result (λ answer. MatchResult answer (λ n. n ≤ length out.old) (λ _. out.new ≡ out.old)) }
+    ensures not_a_grammar { IfOk result (λ answer. (OpensGrammar file.now → ⊥) → LONGEST_LINE ≤ length out.old → (answer ≡ Ok (length (RefusalLine NotAGrammar))) × (out.new ≡ RefusalLine NotAGrammar ++ drop (length (RefusalLine NotAGrammar)) out.old)) }
+    ensures kept { OnErr result (out.new ≡ out.old) }
+{
+    match carry_into(heap, file, out)? {
+        Ok(n) => Ok(Ok(n)),
+        Err(Stop::Refused(refused)) => Ok(Ok(refusal_line(refused, out).unwrap_or(0))),
+        Err(Stop::PickAhead(line)) => Ok(Err(line)),
+    }
 }
 
 // Carries out the file, and answers the text of the drawing that it leaves.
@@ -97,6 +122,36 @@ mod tests {
         let file = b"lattice 1\nstart 11\nrule 0\nsteps 0\nbody\nmark 1 0 0\n";
         let text = carry_out(rt.alloc(), file)?.ok().expect(&rt, "a drawing");
         assert_eq!(rt; text.as_slice(), b"mark 1 0 0\n".as_slice());
+        Ok(())
+    }
+
+    #[test]
+    fn a_refused_file_leaves_the_buffer(rt: HostRuntime) -> Result<(), Fail> {
+        let mut out = [7u8; 12];
+        let file = b"lattice 1\nstart 11\nrule 0\nsteps 0\nbody\nmark 1 0 0\n";
+        assert_eq!(rt; carry_into(rt.alloc(), file, &mut out)?.ok(), Some(11));
+        assert!(rt; carry_into(rt.alloc(), b"lattice 2\n", &mut out)?.is_err());
+        assert_eq!(rt; out.as_slice(), b"mark 1 0 0\n\x07".as_slice());
+        Ok(())
+    }
+
+    #[test]
+    fn a_refused_file_prints_its_line(rt: HostRuntime) -> Result<(), Fail> {
+        let mut out = [7u8; 18];
+        assert_eq!(rt;
+            print_into(rt.alloc(), b"lattice 2\n", &mut out)?.ok(),
+            Some(17)
+        );
+        assert_eq!(rt; out.as_slice(), b"refused 1 line 1\n\x07".as_slice());
+        Ok(())
+    }
+
+    #[test]
+    fn a_pick_ahead_has_its_line(rt: HostRuntime) -> Result<(), Fail> {
+        let mut out = [7u8; 64];
+        let file = b"lattice 1\nstart 0\nrule 16\nsteps 9\nbody\nleft mark 1 0 0\npick 1 1\n";
+        assert_eq!(rt; print_into(rt.alloc(), file, &mut out)?, Err(7));
+        assert_eq!(rt; out[0], 7);
         Ok(())
     }
 

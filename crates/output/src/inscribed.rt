@@ -18,18 +18,18 @@ const LINE: &[u8; 5] = b" line";
 pub(crate) trait Inscribed {
     ghost line: { Self → List ℕ };
 
-    // Its line.
-    fn line(&self) -> Line
-        ensures { result ≡ line self.now };
+    // Puts its line together, in place of what stood there.
+    fn inscribe(&self, on: &mut Line)
+        ensures { on.new ≡ line self.now };
 }
 
 // `mark I X Y`
 impl Inscribed for Mark {
     ghost line = { MarkLine };
 
-    fn line(&self) -> Line {
+    fn inscribe(&self, on: &mut Line) {
         let point = self.under();
-        Line::command(MARK, &[i32::from(self.ink()), point.x(), point.y()])
+        on.command(MARK, &[i32::from(self.ink()), point.x(), point.y()]);
     }
 }
 
@@ -37,11 +37,11 @@ impl Inscribed for Mark {
 impl Inscribed for Cut {
     ghost line = { CutLine };
 
-    fn line(&self) -> Line {
+    fn inscribe(&self, on: &mut Line) {
         let segment = self.under();
         let (x, y) = segment.lower();
         let (p, q) = segment.upper();
-        Line::command(CUT, &[i32::from(self.ink()), x, y, p, q])
+        on.command(CUT, &[i32::from(self.ink()), x, y, p, q]);
     }
 }
 
@@ -49,13 +49,11 @@ impl Inscribed for Cut {
 impl Inscribed for Refused {
     ghost line = { RefusalLine };
 
-    fn line(&self) -> Line {
-        let mut line = Line::new();
-        line.put(REFUSED);
-        line.field(self.refusal.number());
-        line.put(LINE);
-        line.field(self.line);
-        line.end();
-        line
+    fn inscribe(&self, on: &mut Line) {
+        on.end();
+        on.field(i64::from(self.line));
+        on.put(LINE);
+        on.field(i64::from(self.refusal.number()));
+        on.put(REFUSED);
     }
 }

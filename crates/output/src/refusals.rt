@@ -5,6 +5,7 @@ ghost use Rattle.output.specs.Shown.{Shown};
 
 use crate::inscribed::Inscribed;
 pub use crate::line::LONGEST_LINE;
+use crate::line::Line;
 use lattice::refusal::Refusal;
 use notation::refused::Refused;
 
@@ -14,7 +15,8 @@ pub fn refusal_line(refused: Refused, out: &mut [u8]) -> Result<usize, Refusal>
     ensures shown { Shown (RefusalLine refused) out.old out.new result }
     ensures short { LONGEST_LINE ≤ length out.old → IsOk result }
 {
-    let line = refused.line();
+    let mut line = Line::new();
+    refused.inscribe(&mut line);
     if line.len() > out.len() {
         return Err(Refusal::BufferFull);
     }

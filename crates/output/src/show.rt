@@ -5,6 +5,7 @@ ghost use Rattle.output.specs.Lines.{lines as Lines, drawing_text as DrawingText
 ghost use Rattle.output.specs.Shown.{Shown};
 
 use crate::inscribed::Inscribed;
+use crate::line::Line;
 use commands::{Cut, Mark};
 use lattice::refusal::Refusal;
 
@@ -12,9 +13,11 @@ use lattice::refusal::Refusal;
 fn room_after<T: Inscribed>(xs: &[T], room: usize) -> Option<usize>
     ensures { MatchOption result (room < length (Lines T.line xs.now)) (λ n. n + length (Lines T.line xs.now) ≡ room) }
 {
+    let mut line = Line::new();
     let mut left = room;
     for x in xs {
-        left = left.checked_sub(x.line().len())?;
+        x.inscribe(&mut line);
+        left = left.checked_sub(line.len())?;
     }
     Some(left)
 }
@@ -25,9 +28,11 @@ fn write_lines<T: Inscribed>(xs: &[T], out: &mut [u8], from: usize) -> usize
     ensures end { result ≡ from + length (Lines T.line xs.now) }
     ensures written { Wrote from result (Lines T.line xs.now) out.old out.new }
 {
+    let mut line = Line::new();
     let mut at = from;
     for x in xs {
-        at = x.line().write(out, at);
+        x.inscribe(&mut line);
+        at = line.write(out, at);
     }
     at
 }

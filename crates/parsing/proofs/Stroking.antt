@@ -48,10 +48,10 @@ numeric w line rest n [] p k a e = let no : ⊥ = omega arith in absurd no
 numeric w line rest n (z ∷ zs) p k a e = (record { numbers = z ∷ zs; many = k; each = a.short; text = e ∙ ap (λ (r : List ℕ). w ++ (32 ∷ r)) a.text }, refl)
 
 -- faults of the fields behind a word are faults of the line
-no_form : (w line rest : List ℕ) (n : ℕ) → 0 < n → ((f r : List ℕ) → w ++ (32 ∷ f) ≡ w ++ (32 ∷ r) → f ≡ r) → line ≡ w ++ (32 ∷ rest) → ((fs : List (List ℕ)) → length fs ≡ n → Splits rest fs → ⊥) → Formed w n line → ⊥
+pub no_form : (w line rest : List ℕ) (n : ℕ) → 0 < n → ((f r : List ℕ) → w ++ (32 ∷ f) ≡ w ++ (32 ∷ r) → f ≡ r) → line ≡ w ++ (32 ∷ rest) → ((fs : List (List ℕ)) → length fs ≡ n → Splits rest fs → ⊥) → Formed w n line → ⊥
 no_form w line rest n p cut e none f = let b = behind w line rest n p cut e f in none b.0 b.1 b.2
 
-no_numeric : (w line rest : List ℕ) (n : ℕ) (fs : List (List ℕ)) → 0 < n → ((f r : List ℕ) → w ++ (32 ∷ f) ≡ w ++ (32 ∷ r) → f ≡ r) → line ≡ w ++ (32 ∷ rest) → length fs ≡ n → Splits rest fs → ((zs : List ℤ) → AllByRecursion Short zs → fs ≡ map signed_decimal zs → ⊥) → Numeric w n line → ⊥
+pub no_numeric : (w line rest : List ℕ) (n : ℕ) (fs : List (List ℕ)) → 0 < n → ((f r : List ℕ) → w ++ (32 ∷ f) ≡ w ++ (32 ∷ r) → f ≡ r) → line ≡ w ++ (32 ∷ rest) → length fs ≡ n → Splits rest fs → ((zs : List ℤ) → AllByRecursion Short zs → fs ≡ map signed_decimal zs → ⊥) → Numeric w n line → ⊥
 no_numeric w line rest n fs p cut e k s none m =
     none m.numbers m.each (splits_same rest fs (map signed_decimal m.numbers) s (numbers_behind w line rest n p cut e m) (k ∙ sym m.many ∙ sym (length_signed m.numbers)))
 
@@ -72,7 +72,7 @@ cut_first : (fs : List (List ℕ)) → get_or (spaced (codes "cut" ∷ fs)) 0 0 
 cut_first [] = refl
 cut_first (f ∷ fs) = refl
 
-mark_fault : (line rest : List ℕ) (n : ℕ) → line ≡ codes "mark " ++ rest → FieldFault 3 rest n ⊎ ((n ≡ 6) × (zs : List ℤ) × (length zs ≡ 3) × NumbersAre rest zs × (in_range zs ≡ false)) → StrokeFault line n
+pub mark_fault : (line rest : List ℕ) (n : ℕ) → line ≡ codes "mark " ++ rest → FieldFault 3 rest n ⊎ ((n ≡ 6) × (zs : List ℤ) × (length zs ≡ 3) × NumbersAre rest zs × (in_range zs ≡ false)) → StrokeFault line n
 mark_fault line rest n e (inl (inl h)) =
     inl (h.0, λ f. ⊎_elim (no_form (codes "mark") line rest 3 (omega arith) (λ a b k. ap (drop 5) k) e h.1) (other_form (codes "mark") line rest (codes "cut") 5 109 99 (λ z. omega (arith, z)) (λ r. refl) cut_first e) f)
 mark_fault line rest n e (inl (inr h)) =
@@ -86,7 +86,7 @@ mark_fault line rest n e (inr h) =
     let m = numeric (codes "mark") line rest 3 h.1 (omega arith) h.2 h.3 e in
     inr (inr (inl (h.0, inl (m.0, ap in_range m.1 ∙ h.4))))
 
-cut_fault : (line rest : List ℕ) (n : ℕ) → line ≡ codes "cut " ++ rest
+pub cut_fault : (line rest : List ℕ) (n : ℕ) → line ≡ codes "cut " ++ rest
     → FieldFault 5 rest n ⊎ ((n ≡ 6) × (zs : List ℤ) × (length zs ≡ 5) × NumbersAre rest zs × (in_range zs ≡ false)) ⊎ ((n ≡ 7) × (i x y : ℤ) × NumbersAre rest (i ∷ x ∷ y ∷ x ∷ y ∷ []) × (in_range (i ∷ x ∷ y ∷ x ∷ y ∷ []) ≡ true))
     → StrokeFault line n
 cut_fault line rest n e (inl (inl h)) =
@@ -127,7 +127,7 @@ right_told line rest (Ok s) r e h k = rw k (rest, e, h)
 right_told line rest (Err f) r e h k = rw k (inl (rest, inr e, h))
 
 -- faults behind `pick`
-pick_fault : (line rest : List ℕ) (n : ℕ) → line ≡ codes "pick " ++ rest → (line ≡ codes "undo" → ⊥) → FieldFault 2 rest n
+pub pick_fault : (line rest : List ℕ) (n : ℕ) → line ≡ codes "pick " ++ rest → (line ≡ codes "undo" → ⊥) → FieldFault 2 rest n
     → ((n ≡ 4) × (line ≡ codes "undo" → ⊥) × (Formed (codes "pick") 2 line → ⊥)) ⊎ ((n ≡ 5) × Formed (codes "pick") 2 line × (Numeric (codes "pick") 2 line → ⊥))
 pick_fault line rest n e u (inl h) = inl (h.0, u, no_form (codes "pick") line rest 2 (omega arith) (λ a b k. ap (drop 5) k) e h.1)
 pick_fault line rest n e u (inr h) =

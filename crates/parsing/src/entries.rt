@@ -10,9 +10,13 @@ use reading::words::{after_rule, after_start, after_steps, is_body};
 pub fn read_entry(line: &[u8]) -> Option<Entry>
     ensures { EntryIs line.now result }
 {
-    let start = after_start(line).and_then(read_length).map(Entry::Start);
-    let rule = after_rule(line).and_then(read_length).map(Entry::Rule);
-    let steps = after_steps(line).and_then(read_length).map(Entry::Steps);
-    let body = is_body(line).then_some(Entry::Body);
-    start.or(rule).or(steps).or(body)
+    if let Some(rest) = after_start(line) {
+        read_length(rest).map(Entry::Start)
+    } else if let Some(rest) = after_rule(line) {
+        read_length(rest).map(Entry::Rule)
+    } else if let Some(rest) = after_steps(line) {
+        read_length(rest).map(Entry::Steps)
+    } else {
+        is_body(line).then_some(Entry::Body)
+    }
 }

@@ -67,9 +67,9 @@ pub fn read_stroke(line: &[u8]) -> Result<Stroke<Mark, Cut>, Refusal>
     ensures { StrokeIs line.now result }
 {
     if let Some(rest) = after_mark(line) {
-        read_mark(rest).map(Stroke::Mark)
+        Ok(Stroke::Mark(read_mark(rest)?))
     } else if let Some(rest) = after_cut(line) {
-        read_cut(rest).map(Stroke::Cut)
+        Ok(Stroke::Cut(read_cut(rest)?))
     } else {
         Err(Refusal::BadLine)
     }

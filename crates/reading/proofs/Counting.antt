@@ -43,10 +43,10 @@ count_add : (xs : List ℕ) (i n : ℕ) → newlines (take (i + n) xs) ≡ newli
 count_add xs i n = rw take-add (sum_by-append (λ y. cond (ends_line y) 1 0) (take i xs) (take n (drop i xs)))
 
 -- the count goes on by one over a line with its end, and by none over the last line without it
-count_line : (xs : List ℕ) (i n : ℕ) → n ≡ line_length (drop i xs) → newlines (take (i + n) xs) ≡ newlines (take i xs)
+pub count_line : (xs : List ℕ) (i n : ℕ) → n ≡ line_length (drop i xs) → newlines (take (i + n) xs) ≡ newlines (take i xs)
 count_line xs i n e = rw e (count_add xs i (line_length (drop i xs)) ∙ omega (arith, front_none (drop i xs)))
 
-count_ended : (xs : List ℕ) (i n : ℕ) → n ≡ line_length (drop i xs) → n < length (drop i xs) → newlines (take (i + (n + 1)) xs) ≡ newlines (take i xs) + 1
+pub count_ended : (xs : List ℕ) (i n : ℕ) → n ≡ line_length (drop i xs) → n < length (drop i xs) → newlines (take (i + (n + 1)) xs) ≡ newlines (take i xs) + 1
 count_ended xs i n e h =
     rw e (count_add xs i (line_length (drop i xs) + 1) ∙ omega (arith, front_one (drop i xs) (omega (arith, e, h))))
 

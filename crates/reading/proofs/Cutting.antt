@@ -5,7 +5,7 @@ use Rattle.std.proofs.lemmas.Bool.Decides.{nat_tests}
 use Rattle.reading.specs.Parts.{length_before}
 
 module _ (k : ℕ) where
-  abbrev free_length : List ℕ → ℕ
+  abbrev pub free_length : List ℕ → ℕ
   free_length bs = length_before k bs
 
   abbrev pub Free : List ℕ → Type 0

@@ -31,10 +31,10 @@ one_split (x ∷ f) (y ∷ g) r s h k e =
     (λ i. w i ∷ t.0 i, t.1)
 
 -- with a field in front there is one more
-one_more : (xs f rest g : List ℕ) (gs : List (List ℕ)) → Field f → xs ≡ f ++ (32 ∷ rest) → Splits rest (g ∷ gs) → Splits xs (f ∷ g ∷ gs)
+pub one_more : (xs f rest g : List ℕ) (gs : List (List ℕ)) → Field f → xs ≡ f ++ (32 ∷ rest) → Splits rest (g ∷ gs) → Splits xs (f ∷ g ∷ gs)
 one_more xs f rest g gs h e s = record { text = e ∙ ap (λ (ys : List ℕ). f ++ (32 ∷ ys)) s.text; fields = (h, s.fields) }
 
-one_field : (xs : List ℕ) → Field xs → Splits xs (xs ∷ [])
+pub one_field : (xs : List ℕ) → Field xs → Splits xs (xs ∷ [])
 one_field xs h = record { text = refl; fields = (h, tt) }
 
 -- and no more
@@ -51,7 +51,7 @@ no_two xs n none p [] l s = let no : ⊥ = omega arith in absurd no
 no_two xs n none p (g ∷ []) l s = let no : ⊥ = omega arith in absurd no
 no_two xs n none p (g ∷ k ∷ gs) l s = none g (spaced (k ∷ gs)) s.fields.0 s.text
 
-not_one : (xs : List ℕ) → (Field xs → ⊥) → NoFields xs 1
+pub not_one : (xs : List ℕ) → (Field xs → ⊥) → NoFields xs 1
 not_one xs none [] l s = let no : ⊥ = omega arith in absurd no
 not_one xs none (g ∷ []) l s = none (subst Field (sym s.text) s.fields.0)
 not_one xs none (g ∷ k ∷ gs) l s = let no : ⊥ = omega arith in absurd no

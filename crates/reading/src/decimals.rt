@@ -26,13 +26,17 @@ pub fn read_length(field: &[u8]) -> Option<u32>
     ensures { LengthIs field.now result }
 {
     let first = *field.first()?;
-    if !first.is_ascii_digit() || field.len() > 9 {
+    if field.len() > 9 {
         return None;
     }
     if first == b'0' && field.len() > 1 {
         return None;
     }
-    str::from_utf8(field).ok()?.parse().ok()
+    let mut value = 0;
+    for b in field {
+        value = value * 10 + char::from(*b).to_digit(10)?;
+    }
+    Some(value)
 }
 
 // A number: told by its first character, a minus sign, which 0 does not take, or a digit.
@@ -45,7 +49,7 @@ pub fn read_number(field: &[u8]) -> Option<i32>
             0 => None,
             n => Some(-(n as i32)),
         },
-        First::Digit => read_length(field).map(|n| n as i32),
+        First::Digit => Some(read_length(field)? as i32),
         First::Other => None,
     }
 }

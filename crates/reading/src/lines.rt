@@ -24,7 +24,7 @@ fn ends(bytes: &[u8]) -> u32
     ensures value { result ≡ newlines bytes.now }
     ensures few { result ≤ 65536 }
 {
-    bytes.iter().filter(|b| **b == b'\n').count() as u32
+    bytes.iter().map(|b| u32::from(*b == b'\n')).sum()
 }
 
 impl<'a> Reader<'a> {

@@ -3,7 +3,6 @@ ghost use Rattle.std.specs.Prelude.{◌≡◌};
 ghost use Rattle.run.specs.declared.bodies.Stop.TheVariants.{Refused as Refuses};
 
 use crate::listing::Listing;
-use crate::tables::BothSheets;
 use commands::{Cut, Mark, SideLine, StepLine};
 use lattice::refusal::Refusal;
 use notation::refused::Refused;
@@ -11,7 +10,9 @@ use parsing::strokes::{read_side, read_step, read_stroke};
 use reading::line::Line;
 use reading::reader::Reader;
 use rulebook::rulebook::Rulebook;
+use rulebook::stroke::Stroke;
 use rulebook::table::Stretch;
+use sheets::sheet::Sheet;
 
 // Why a run ends before its output: it is refused, or it comes to a pick. The crate `drawing` carries picks out, but `run`
 // does not rest on it yet.
@@ -76,10 +77,22 @@ pub fn carry_rules(listing: &Listing, book: &mut Rulebook<Mark, Cut>) -> Result<
     Ok(())
 }
 
+// One line of the start. It and what calls it take the two sheets one by one, so that a caller who was lent them can pass them on.
+fn carry_stroke(line: Line, marks: &mut Sheet<Mark>, cuts: &mut Sheet<Cut>) -> Result<(), Refusal> {
+    match read_stroke(ended(line)?)? {
+        Stroke::Mark(e) => marks.add(e),
+        Stroke::Cut(e) => cuts.add(e),
+    }
+}
+
 // The start.
-pub fn carry_start(listing: &Listing, drawn: &mut BothSheets) -> Result<(), Stop> {
+pub fn carry_start(
+    listing: &Listing,
+    marks: &mut Sheet<Mark>,
+    cuts: &mut Sheet<Cut>,
+) -> Result<(), Stop> {
     let reader = Reader::part(listing.file, listing.bodies, listing.rules_from());
-    carry_lines(reader, |line| drawn.add(read_stroke(ended(line)?)?))
+    carry_lines(reader, |line| carry_stroke(line, marks, cuts))
 }
 
 // Whether a stretch has no slot.

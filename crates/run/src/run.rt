@@ -5,7 +5,7 @@ ghost use Rattle.run.specs.declared.bodies.Stop.TheVariants.{Refused as Refuses}
 
 use crate::bodies::{Stop, carry_rules, carry_start, carry_steps, refused_at};
 use crate::listing::read_listing;
-use crate::tables::Tables;
+use crate::tables::{BothSheets, Tables};
 use output::show::show;
 
 // Carries out the file in the tables, and writes the drawing that it leaves into the front of the buffer.
@@ -15,9 +15,13 @@ pub fn run(file: &[u8], tables: Tables, out: &mut [u8]) -> Result<usize, Stop>
 {
     let outside = |refusal| refused_at(refusal, 0);
     let listing = read_listing(file)?;
-    let (mut book, mut drawn) = tables.open().map_err(outside)?;
+    let (mut book, drawn) = tables.open().map_err(outside)?;
+    let BothSheets {
+        mut marks,
+        mut cuts,
+    } = drawn;
     carry_rules(&listing, &mut book)?;
-    carry_start(&listing, &mut drawn)?;
+    carry_start(&listing, &mut marks, &mut cuts)?;
     carry_steps(&listing, &book)?;
-    show(drawn.marks.elements(), drawn.cuts.elements(), out).map_err(outside)
+    show(marks.elements(), cuts.elements(), out).map_err(outside)
 }

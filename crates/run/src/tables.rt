@@ -2,7 +2,6 @@
 use commands::{Cut, Mark};
 use lattice::refusal::Refusal;
 use rulebook::rulebook::{Rulebook, SideTables};
-use rulebook::stroke::Stroke;
 use sheets::sheet::Sheet;
 
 #[derive(Drop)]
@@ -38,15 +37,5 @@ impl<'a> Tables<'a> {
         let marks = Sheet::new(marks)?;
         let cuts = Sheet::new(cuts)?;
         Ok((Rulebook::new(left, right), BothSheets { marks, cuts }))
-    }
-}
-
-impl BothSheets<'_> {
-    // Adds an element to the sheet of its kind.
-    pub(crate) fn add(&mut self, stroke: Stroke<Mark, Cut>) -> Result<(), Refusal> {
-        match stroke {
-            Stroke::Mark(e) => self.marks.add(e),
-            Stroke::Cut(e) => self.cuts.add(e),
-        }
     }
 }

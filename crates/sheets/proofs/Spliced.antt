@@ -3,11 +3,16 @@ use Rattle.std.proofs.Common.{◌≡◌, ℕ, ◌+◌, ◌-◌, ◌≤◌, min, 
 use lib.Seq.{paste}
 use Rattle.std.specs.List.{between}
 use Rattle.std.proofs.lemmas.Bool.{cases_lt}
-use Rattle.std.proofs.lemmas.List.{take_all, drop_all, drop-drop, append-nil, take-take, drop-take, length-take-le, length-drop, length-append, take_at, drop_at, take-append-le}
+use Rattle.std.proofs.lemmas.List.{take_all, drop_all, drop-drop, append-nil, take-take, drop-take, length-take-le, length-drop, length-append, take_at, drop_at, take-append-le, take-append-drop}
 
 -- what lies past the end is not counted
 pub clamped : {X : Type 0} (n k : ℕ) (xs : List X) → k ≡ min n (length xs) → take k xs ≡ take n xs
 clamped n k xs e = ⊎_elim (λ h. ap (λ j. take j xs) (omega arith)) (λ h. take_all k xs (omega arith) ∙ sym (take_all n xs h)) (cases_lt n (length xs))
+
+-- what is copied onto itself stays
+pub in_place : {X : Type 0} (xs : List X) (at n : ℕ) → xs ≡ paste xs at (drop at xs) n
+in_place xs at n =
+    sym (take-append-drop at xs) ∙ ap (λ z. take at xs ++ z) (sym (take-append-drop n (drop at xs)) ∙ ap (λ z. take n (drop at xs) ++ z) (drop-drop n at xs)) ∙ sym (append_assoc (take at xs) (take n (drop at xs)) (drop (at + n) xs))
 
 module _ {X : Type 0} (xs put : List X) (from to n : ℕ) where
   abbrev end : ℕ

@@ -4,6 +4,7 @@
 pub mod change;
 mod finding;
 mod listed;
+mod moved;
 mod pieces;
 pub mod sheet;
 pub mod slots;

@@ -10,6 +10,7 @@ ghost use Rattle.sheets.specs.Contents.{items, room as RoomOf, Sound, covered, B
 ghost use Rattle.sheets.specs.Put.{Put, NoPut};
 
 use crate::listed::{how_many, write};
+use crate::moved::move_to;
 use crate::pieces::{extent, is_same};
 use crate::splice::Splice;
 use crate::within::lies_within;
@@ -71,7 +72,8 @@ impl<'a, K: Kind> Sheet<'a, K> {
         self.slots.len() - self.elements().len()
     }
 
-    // A part of the elements gives way to others.
+    // A part of the elements gives way to others. It is put into its two callers, so that the part is not written down first.
+    #[inline(always)]
     fn put(&mut self, part: Splice<K>) -> Result<(), Refusal>
         requires low { part.from ≤ part.to }
         requires high { part.to ≤ length (items self.old) }
@@ -84,7 +86,7 @@ impl<'a, K: Kind> Sheet<'a, K> {
         if more > self.slots.len() - others {
             return Err(Refusal::SheetFull);
         }
-        self.slots.copy_within(part.to..n, part.from + more);
+        move_to(self.slots, part.to, n, part.from + more);
         write(&mut self.slots[part.from..], part.left, part.right);
         self.count = others + more;
         Ok(())

@@ -2,11 +2,10 @@
 // `case N`, a file of N bytes, and a line with the name of the case. tools/make_trials.py writes both ends.
 #![tactic(auto)]
 
-ghost use Rattle.std.specs.Prelude.{◌<◌, ◌≤◌, length, IfSome};
+ghost use Rattle.std.specs.Prelude.{◌<◌, ◌≤◌, length, IfOk, IfSome};
 
-use heap_run::{carry_out, refusal_text};
+use heap_run::{LONGEST_TEXT, print_into};
 use reading::decimals::read_length;
-use run::bodies::Stop;
 use std::alloc::{AllocError, Global};
 use std::io;
 use std::io::{Read, Write};
@@ -44,26 +43,25 @@ fn next_case(text: &[u8]) -> Option<(Case<'_>, &[u8])>
     Some((Case { file, name }, rest))
 }
 
-// What a run prints: nothing where it comes to a pick.
-fn printed(heap: Global, file: &[u8]) -> Result<Vec<u8>, AllocError> {
-    match carry_out(heap, file)? {
-        Ok(text) => Ok(text),
-        Err(Stop::Refused(refused)) => refusal_text(heap, refused),
-        Err(Stop::PickAhead(_)) => Ok(Vec::new(heap)),
-    }
+// What a run prints, in the front of the buffer: how many bytes, none where it comes to a pick.
+fn printed(heap: Global, file: &[u8], out: &mut [u8]) -> Result<usize, AllocError>
+    ensures { IfOk result (λ n. n ≤ length out.old) }
+{
+    Ok(print_into(heap, file, out)?.unwrap_or(0))
 }
 
 fn main(rt: HostRuntime) -> io::Result<()> {
     let heap = rt.alloc();
     let mut text = Vec::new(heap);
     let _ = rt.stdin().take(READ).read_to_end(&mut text)?;
+    let mut out = vec![in heap; 0u8; LONGEST_TEXT]?;
     let mut stdout = rt.stdout();
     let mut rest = text.as_slice();
     while let Some((case, behind)) = next_case(rest) {
-        let lines = printed(heap, case.file)?;
+        let n = printed(heap, case.file, out.as_mut_slice())?;
         stdout.write_all(case.name)?;
         stdout.write_all(b"\n")?;
-        stdout.write_all(lines.as_slice())?;
+        stdout.write_all(&out.as_slice()[..n])?;
         rest = behind;
     }
     stdout.flush()

@@ -1,10 +1,10 @@
-use Rattle.std.proofs.Common.{◌≡◌, ◌+◌, ◌*◌, ◌≤◌, ◌∷◌, map, length, take}
-use Rattle.std.specs.Fmt.{signed_decimal}
-use Rattle.notation.specs.Words.{spaced}
+use Rattle.std.proofs.Common.{◌≡◌, ◌+◌, ◌*◌, ◌≤◌, [], ◌∷◌, ◌++◌, length}
+use Rattle.std.specs.List.{flat_map}
+use Rattle.output.proofs.Spacing.{field}
 use Rattle.output.proofs.line.Line.command.Given as goal
 
 abbrev pub invariant-loop-number : goal.invariant-loop-number
 invariant-loop-number l = record {
-  text : l.line ≡ spaced (l.word ∷ map signed_decimal (take l.number-index l.numbers));
-  few : length l.line ≤ length l.word + 12 * l.number-index;
+  text : flat_map field l.number-iterator.iter.rest.now ++ l.self ≡ flat_map field l.numbers ++ (10 ∷ []);
+  few : length l.self + 12 * length l.number-iterator.iter.rest.now ≤ 12 * length l.numbers + 1;
 }

@@ -12,5 +12,5 @@ returns-clause-cases g c =
     let n = ap length c.elements-n.ensures.value in
     let more = c.how_many-more.ensures in
     let within = c.elements-n.ensures.within in
-    let copied = c.copy_within.ensures.after ∙ (λ i. paste s.slots.now (p.from + more i) (drop p.to s.slots.now) (n i - p.to)) in
+    let copied = c.move_to.ensures ∙ (λ i. paste s.slots.now (p.from + more i) (drop p.to s.slots.now) (n i - p.to)) in
     puts p s _ c.requires.low c.requires.high (omega arith) (written _ (news p) _ p.from c.write.ensures ∙ ap (λ l. take p.from l ++ (news p ++ drop (p.from + length (news p)) l)) copied) (λ i. n i - (p.to - p.from) + more i)
